@@ -1,0 +1,13 @@
+-- `records::with_first` meets its contract. Assumes nothing.
+use borrow.Author.Needs.{needs}
+use Rattle.records.proofs.with_first.Statement.{statement}
+use Rattle.records.proofs.with_first.Tie as tie
+
+node-word-requires : tie.Need-node-word-requires
+node-word-requires c κs = search needs
+
+returns : tie.Need-returns
+returns c = simp (c .node-word .ensures)
+
+pub with-first-spec : {M : Type 1} → statement M
+with-first-spec = tie.close (tie.spec node-word-requires returns)

@@ -1,0 +1,8 @@
+-- The definitions that the contracts of this crate cite.
+pub mod Pick
+pub mod Answer
+pub mod Setup
+pub mod Head
+pub mod Rule
+pub mod Change
+pub mod Part
