@@ -1,0 +1,207 @@
+-- The check of a list by computation says yes exactly for a sound list, and keeps exactly its segments.
+-- `kept` is joined to `Run` for any test, by `Steps` (each node passed the test, told those before); the test `mayFollow` is joined to `Good` without the walk.
+-- That the check's bound of length / 16 nodes loses none is the counting law `few`. Assumes nothing.
+use mathlib.Core.Path.{_≡_, refl, ap, _∙_, subst}
+use mathlib.Core.Bool.{Bool, true, false, _&&_, not}
+use mathlib.Core.List.{List, [], _∷_, _++_, append-assoc, append-nil}
+use Prim.Native.Nat.{ℕ, zero, suc, _/_, _%_, _≤_}
+use native.Mathlib.Omega.{arith}
+use lib.Dec.{eqb}
+use borrow.Author.Tests.{eqb-true, eqb-false, eq-eqb, ne-eqb, leb-true, le-leb, not-true}
+use lib.ListN.{length}
+use Rattle.words.specs.Word.{wordAt, endMark}
+use Rattle.records.specs.Pick.{pick}
+use Rattle.records.specs.Setup.{limit}
+use Rattle.records.specs.declared.Order.{Order}
+use Rattle.records.specs.declared.Order.the-variants.{Optimistic, Pessimistic}
+use Rattle.records.proofs.Facts.{both}
+use Rattle.freelist.specs.Segs.{Seg, Run, All, Pairwise, Apart, InRange, EndsBy, Leads, Good, Listed, segAt, nextAt, endOf}
+use Rattle.freelist.specs.Check.{after, passed, kept, meets, inRange, follows, mayFollow, goodRun, soundb}
+use Rattle.freelist.specs.Link.{sizes}
+use Rattle.freelist.proofs.Listing.{all-map, all-append, all-split, pairs-snoc, pairs-at}
+use Rattle.freelist.proofs.Meets.{apart-all, meets-none}
+use Rattle.freelist.proofs.Runs.{run-after, run-passed}
+use Rattle.freelist.proofs.Totals.{few, sizes-within}
+
+-- each of these passed the test, told what came before
+abbrev Steps : (List Seg → Seg → Bool) → List Seg → List Seg → Type 0
+Steps ok seen [] = Unit {0}
+Steps ok seen (s ∷ ss) = (ok seen s ≡ true) × Steps ok (seen ++ s ∷ []) ss
+
+module _ (w : ℕ → ℕ) (ok : List Seg → Seg → Bool) where
+  -- what `kept` keeps is a run whose nodes pass the test
+  abbrev Kept : List Seg → ℕ → List Seg → Type 0
+  Kept seen p ss = Run w p ss (after w (length ss) p) × Steps ok seen ss
+
+  keep : (x y : Bool) (p : ℕ) (seen rest : List Seg) → eqb p endMark ≡ x → ok seen (segAt w p) ≡ y → Kept (seen ++ segAt w p ∷ []) (nextAt w p) rest
+      → Kept seen p (pick (not x && y) (segAt w p ∷ rest) [])
+  keep true y p seen rest e f h = (refl, tt)
+  keep false true p seen rest e f h = ((eqb-false p endMark e, refl, h .0), (f, h .1))
+  keep false false p seen rest e f h = (refl, tt)
+
+  kept-is : (n : ℕ) (seen : List Seg) (p : ℕ) → Kept seen p (kept n w ok seen p)
+  unfolding kept
+  kept-is zero seen p = (refl, tt)
+  kept-is (suc n) seen p =
+      keep (eqb p endMark) (ok seen (segAt w p)) p seen (kept n w ok (seen ++ segAt w p ∷ []) (nextAt w p)) refl refl
+      (kept-is n (seen ++ segAt w p ∷ []) (nextAt w p))
+
+  -- a run to the end mark whose nodes pass the test is kept whole
+  kept-whole : (n : ℕ) (seen : List Seg) (p : ℕ) (ss : List Seg) → length ss ≤ n → Run w p ss endMark → Steps ok seen ss → kept n w ok seen p ≡ ss
+  unfolding kept
+  kept-whole zero seen p [] l r k = refl
+  kept-whole zero seen p (s ∷ ss) l r k = absurd (omega arith)
+  kept-whole (suc n) seen p [] l r k = rw (eq-eqb p endMark r) refl
+  kept-whole (suc n) seen p (s ∷ ss) l r k =
+      let f : ok seen (segAt w p) ≡ true = rw (r .1) at (k .0) in
+      let g : Steps ok (seen ++ segAt w p ∷ []) ss = rw (r .1) at (k .1) in
+      rw (ne-eqb p endMark (r .0), f, kept-whole n (seen ++ segAt w p ∷ []) (nextAt w p) ss (omega arith) (r .2) g, r .1)
+
+-- the tests of one node
+module _ (start top : ℕ) (s : Seg) where
+  pub in-range : inRange start top s ≡ true → InRange start top s
+  unfolding inRange
+  in-range e =
+      let a = both _ _ e in
+      let b = both _ _ (a .0) in
+      let c = both _ _ (b .0) in
+      record { aligned = eqb-true _ _ (c .0); above = leb-true _ _ (c .1); holds = leb-true _ _ (b .1); below = leb-true _ _ (a .1) }
+
+  pub range-test : InRange start top s → inRange start top s ≡ true
+  unfolding inRange
+  range-test h =
+      rw (eq-eqb (s .offset % 8) 0 (h .aligned), le-leb start (s .offset) (h .above), le-leb 1 (s .size) (h .holds), le-leb (endOf s) top (h .below)) refl
+
+  pub range-no : (InRange start top s → ⊥) → inRange start top s ≡ false
+  range-no h = go (inRange start top s) refl
+    where
+      go : (b : Bool) → inRange start top s ≡ b → inRange start top s ≡ false
+      go true e = absurd (h (in-range e))
+      go false e = e
+
+pub leads-trans : (o : Order) (s t u : Seg) → Leads o s t → Leads o t u → Leads o s u
+leads-trans Optimistic s t u h k = omega (arith, leb-true, le-leb)
+leads-trans Pessimistic s t u h k = omega (arith, leb-true, le-leb)
+
+-- in a sorted list the test of the last node is that of each
+follows-all : (o : Order) (ss : List Seg) (t : Seg) → Pairwise (Leads o) ss → follows o ss t ≡ true → All (λ s. Leads o s t) ss
+follows-all o [] t h e = tt
+follows-all o (s ∷ []) t h e = (e, tt)
+follows-all o (s ∷ u ∷ us) t h e =
+    let r = follows-all o (u ∷ us) t (h .1) e in
+    (leads-trans o s u t (h .0 .0) (r .0), r)
+
+all-follows : (o : Order) (ss : List Seg) (t : Seg) → All (λ s. Leads o s t) ss → follows o ss t ≡ true
+all-follows o [] t h = refl
+all-follows o (s ∷ []) t h = h .0
+all-follows o (s ∷ u ∷ us) t h = all-follows o (u ∷ us) t (h .1)
+
+-- the answers of `mayFollow`, in the order of its tests
+module _ (start top : ℕ) (o : Order) (seen : List Seg) (t : Seg) where
+  pub may-no-range : inRange start top t ≡ false → mayFollow start top o seen t ≡ false
+  unfolding mayFollow
+  may-no-range a = rw a refl
+
+  pub may-no-order : inRange start top t ≡ true → follows o seen t ≡ false → mayFollow start top o seen t ≡ false
+  unfolding mayFollow
+  may-no-order a b = rw (a, b) refl
+
+  pub may-no-room : inRange start top t ≡ true → follows o seen t ≡ true → meets seen (t .offset) (endOf t) ≡ true → mayFollow start top o seen t ≡ false
+  unfolding mayFollow
+  may-no-room a b c = rw (a, b, c) refl
+
+  pub may-yes : inRange start top t ≡ true → follows o seen t ≡ true → meets seen (t .offset) (endOf t) ≡ false → mayFollow start top o seen t ≡ true
+  unfolding mayFollow
+  may-yes a b c = rw (a, b, c) refl
+
+  pub may-ranged : mayFollow start top o seen t ≡ true → InRange start top t
+  unfolding mayFollow
+  may-ranged e = in-range start top t (both _ _ (both _ _ e .0) .0)
+
+module _ (start top : ℕ) (o : Order) where
+  good-nil : Good start top o []
+  good-nil = record { ranged = tt; apart = tt; sorted = tt }
+
+  good-snoc : (ss : List Seg) (t : Seg) → Good start top o ss → mayFollow start top o ss t ≡ true → Good start top o (ss ++ t ∷ [])
+  unfolding mayFollow
+  good-snoc ss t g e =
+      let a = both _ _ e in
+      let b = both _ _ (a .0) in
+      record {
+        ranged = all-append (InRange start top) ss (t ∷ []) (g .ranged) (in-range start top t (b .0), tt);
+        apart = pairs-snoc Apart ss t (g .apart) (apart-all ss t (not-true _ (a .1)));
+        sorted = pairs-snoc (Leads o) ss t (g .sorted) (follows-all o ss t (g .sorted) (b .1));
+      }
+
+  good-test : (ss : List Seg) (t : Seg) (us : List Seg) → Good start top o (ss ++ t ∷ us) → mayFollow start top o ss t ≡ true
+  unfolding mayFollow
+  good-test ss t us g =
+      rw (
+        range-test start top t (all-split (InRange start top) ss (t ∷ us) (g .ranged) .1 .0),
+        all-follows o ss t (pairs-at (Leads o) ss t us (g .sorted)),
+        meets-none ss t (pairs-at Apart ss t us (g .apart)),
+      )
+      refl
+
+  -- a list is good exactly where each of its nodes passes the test
+  steps-good : (seen ss : List Seg) → Good start top o seen → Steps (mayFollow start top o) seen ss → Good start top o (seen ++ ss)
+  steps-good seen [] g h = rw append-nil g
+  steps-good seen (s ∷ ss) g h = rw append-assoc at (steps-good (seen ++ s ∷ []) ss (good-snoc seen s g (h .0)) (h .1))
+
+  good-steps : (seen ss : List Seg) → Good start top o (seen ++ ss) → Steps (mayFollow start top o) seen ss
+  good-steps seen [] g = tt
+  good-steps seen (s ∷ ss) g =
+      (good-test seen s ss g, good-steps (seen ++ s ∷ []) ss (rw append-assoc g))
+
+module _ (l : List ℕ) (head start top : ℕ) (o : Order) where
+  -- the longest good run: a run, and good
+  pub good-is-run : Run (wordAt l) head (goodRun l head start top o) (after (wordAt l) (length (goodRun l head start top o)) head)
+  unfolding goodRun
+  good-is-run = kept-is (wordAt l) (mayFollow start top o) (length l / 16) [] head .0
+
+  pub good-good : Good start top o (goodRun l head start top o)
+  unfolding goodRun
+  good-good = steps-good start top o [] _ (good-nil start top o) (kept-is (wordAt l) (mayFollow start top o) (length l / 16) [] head .1)
+
+  -- where the check says yes, it is the list
+  pub checked-listed : length l ≤ limit → 1 ≤ start → start ≤ top → top ≤ length l → soundb l head start top o ≡ true → Listed l head start top o (goodRun l head start top o)
+  unfolding soundb
+  checked-listed a b c d e =
+      record {
+        limited = a;
+        starts = b;
+        ordered = c;
+        inside = d;
+        run = subst (λ (q : ℕ). Run (wordAt l) head (goodRun l head start top o) q) (eqb-true _ _ e) good-is-run;
+        good = good-good;
+      }
+
+  module _ (segs : List Seg) (s : Listed l head start top o segs) where
+    -- 01: at most cap / 16 nodes
+    pub listed-few : length segs ≤ length l / 16
+    listed-few = omega (arith, few start top segs (s .starts) (s .good .ranged) (s .good .apart), s .inside)
+
+    -- a list is the longest good run, and so there is one only, and the check says yes
+    pub listed-run : goodRun l head start top o ≡ segs
+    unfolding goodRun
+    listed-run =
+        kept-whole (wordAt l) (mayFollow start top o) (length l / 16) [] head segs listed-few (s .run)
+        (good-steps start top o [] segs (s .good))
+
+    pub listed-checked : soundb l head start top o ≡ true
+    unfolding soundb
+    listed-checked =
+        eq-eqb _ _ (ap (λ (ss : List Seg). after (wordAt l) (length ss) head) listed-run ∙ run-after (wordAt l) head endMark segs (s .run) (length segs) refl)
+
+    -- a list by the number of its nodes
+    pub listed-passed : (n : ℕ) → n ≡ length segs → passed (wordAt l) n head ≡ segs
+    listed-passed = run-passed (wordAt l) head endMark segs (s .run)
+
+    pub listed-after : (n : ℕ) → n ≡ length segs → after (wordAt l) n head ≡ endMark
+    listed-after = run-after (wordAt l) head endMark segs (s .run)
+
+    pub listed-ends : All (EndsBy (length l)) segs
+    listed-ends = all-map (InRange start top) (EndsBy (length l)) (λ t r. omega (arith, s .inside)) segs (s .good .ranged)
+
+    pub listed-sizes : sizes segs ≤ length l
+    listed-sizes = omega (arith, sizes-within start top segs (s .good .ranged) (s .good .apart), s .inside)

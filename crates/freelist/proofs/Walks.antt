@@ -1,0 +1,86 @@
+-- The turns of `good_run` as laws over plain values: `kept` stops at its limit, at the end mark and at a node that fails, and goes on at any other.
+-- Assumes nothing.
+use mathlib.Core.Path.{_≡_, refl, sym, ap, _∙_}
+use mathlib.Core.Logic.{_≢_}
+use mathlib.Core.Bool.{Bool, true, false, _&&_, not}
+use mathlib.Core.List.{List, [], _∷_, _++_, append-assoc, append-nil}
+use Prim.Native.Nat.{ℕ, suc, _+_, _-_, _/_, _≤_, _<_}
+use native.Mathlib.Numerals.{add-one}
+use native.Mathlib.Omega.{arith}
+use borrow.Author.Tests.{eq-eqb, ne-eqb}
+use lib.Dec.{eqb}
+use lib.ListN.{length}
+use Rattle.words.specs.Word.{wordAt, endMark}
+use Rattle.records.specs.Pick.{pick}
+use Rattle.freelist.specs.Segs.{Seg, All, EndsBy, segAt, nextAt}
+use Rattle.freelist.specs.Check.{after, passed, kept, mayFollow, goodRun, Walked}
+use Rattle.records.specs.declared.Order.{Order}
+use Rattle.freelist.proofs.Listing.{all-append}
+use Rattle.freelist.proofs.Runs.{passed-snoc, after-suc, length-passed}
+use Rattle.freelist.proofs.Checks.{may-ranged}
+
+module _ (w : ℕ → ℕ) (ok : List Seg → Seg → Bool) (seen : List Seg) (p : ℕ) where
+  kept-pop : (n : ℕ) → 0 < n → kept n w ok seen p ≡ pick (not (eqb p endMark) && ok seen (segAt w p)) (segAt w p ∷ kept (n - 1) w ok (seen ++ segAt w p ∷ []) (nextAt w p)) []
+  unfolding kept
+  kept-pop n h =
+      let e : n ≡ suc (n - 1) = omega arith in
+      ap (λ (k : ℕ). kept k w ok seen p) e
+
+  kept-limit : (n : ℕ) → n ≤ 0 → kept n w ok seen p ≡ []
+  unfolding kept
+  kept-limit n h = let e : n ≡ 0 = omega arith in rw e refl
+
+  kept-end : (n : ℕ) → 0 < n → p ≡ endMark → kept n w ok seen p ≡ []
+  kept-end n h e = rw (kept-pop n h, eq-eqb p endMark e) refl
+
+  kept-fails : (n : ℕ) → 0 < n → p ≢ endMark → ok seen (segAt w p) ≡ false → kept n w ok seen p ≡ []
+  kept-fails n h e f = rw (kept-pop n h, ne-eqb p endMark e, f) refl
+
+  kept-goes : (n : ℕ) → 0 < n → p ≢ endMark → ok seen (segAt w p) ≡ true → kept n w ok seen p ≡ segAt w p ∷ kept (n - 1) w ok (seen ++ segAt w p ∷ []) (nextAt w p)
+  kept-goes n h e f = rw (kept-pop n h, ne-eqb p endMark e, f) refl
+
+-- what holds after count nodes of a good run
+pub record Walking (l : List ℕ) (head start top : ℕ) (o : Order) (limit count prev p : ℕ) : Type 0 where
+  pub limited : limit ≡ length l / 16
+  pub within : count ≤ limit
+  pub stands : p ≡ after (wordAt l) count head
+  pub ends : All (EndsBy (length l)) (passed (wordAt l) count head)
+  pub latest : 0 < count → prev ≡ after (wordAt l) (count - 1) head
+  pub keeps : goodRun l head start top o ≡ passed (wordAt l) count head ++ kept (limit - count) (wordAt l) (mayFollow start top o) (passed (wordAt l) count head) p
+
+module _ (l : List ℕ) (head start top : ℕ) (o : Order) where
+  pub walk-begins : Walking l head start top o (length l / 16) 0 head head
+  unfolding goodRun
+  walk-begins =
+      let e : length l / 16 - 0 ≡ length l / 16 = omega arith in
+      record { limited = refl; within = omega arith; stands = refl; ends = tt; latest = λ h. absurd (omega arith); keeps = rw e refl }
+
+  module _ (limit count prev p : ℕ) (k : Walking l head start top o limit count prev p) where
+    -- the run ends where nothing more is kept
+    ended : kept (limit - count) (wordAt l) (mayFollow start top o) (passed (wordAt l) count head) p ≡ [] → Walked l head (goodRun l head start top o) count p
+    ended e = record { counted = sym (ap length (k .keeps) ∙ rw (e, append-nil) (length-passed (wordAt l) count head)); stops = k .stands }
+
+    pub walk-limit : limit ≤ count → Walked l head (goodRun l head start top o) count p
+    walk-limit h = ended (kept-limit _ _ _ _ _ (omega arith))
+
+    pub walk-end : count < limit → p ≡ endMark → Walked l head (goodRun l head start top o) count p
+    walk-end h e = ended (kept-end _ _ _ _ _ (omega arith) e)
+
+    pub walk-fails : count < limit → p ≢ endMark → mayFollow start top o (passed (wordAt l) count head) (segAt (wordAt l) p) ≡ false → Walked l head (goodRun l head start top o) count p
+    walk-fails h e f = ended (kept-fails _ _ _ _ _ (omega arith) e f)
+
+    pub walk-goes : top ≤ length l → count < limit → p ≢ endMark → mayFollow start top o (passed (wordAt l) count head) (segAt (wordAt l) p) ≡ true
+        → Walking l head start top o limit (count + 1) p (nextAt (wordAt l) p)
+    walk-goes t h e f =
+        let s : passed (wordAt l) (count + 1) head ≡ passed (wordAt l) count head ++ segAt (wordAt l) p ∷ [] = rw (add-one, passed-snoc, ← k .stands) refl in
+        let a : after (wordAt l) (count + 1) head ≡ nextAt (wordAt l) p = rw (add-one, after-suc, ← k .stands) refl in
+        let m : count + 1 - 1 ≡ count = omega arith in
+        let n : limit - (count + 1) ≡ limit - count - 1 = omega arith in
+        record {
+          limited = k .limited;
+          within = omega arith;
+          stands = sym a;
+          ends = rw s (all-append (EndsBy (length l)) (passed (wordAt l) count head) (segAt (wordAt l) p ∷ []) (k .ends) (omega (arith, may-ranged start top o _ _ f .below), tt));
+          latest = λ h. rw m (k .stands);
+          keeps = k .keeps ∙ rw (s, append-assoc, n, kept-goes (wordAt l) (mayFollow start top o) (passed (wordAt l) count head) p (limit - count) (omega arith) e f) refl;
+        }

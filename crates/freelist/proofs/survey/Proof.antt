@@ -1,0 +1,59 @@
+-- `freelist::survey` meets its contract. The answers of `surveyed`, in the order of its tests.
+-- Assumes nothing.
+use borrow.Author.Needs.{needs}
+use mathlib.Core.Path.{_≡_, sym, _∙_}
+use mathlib.Core.Bool.{true}
+use native.Mathlib.Omega.{arith}
+use denote.Ref.{now}
+use borrow.Author.Tests.{not-true, not-false}
+use lib.ListN.{length}
+use Rattle.records.specs.Head.{headSound}
+use Rattle.records.proofs.Facts.{head-facts}
+use Rattle.freelist.proofs.Surveys.{survey-head, survey-mark, survey-open, survey-closed}
+use Rattle.freelist.proofs.survey.Statement.{statement}
+use Rattle.freelist.proofs.survey.Tie as tie
+
+-- the head is sound past its test
+headed : (c : tie.Else1) → let a = c .before .before .before .args in headSound (a .shape) (a .header) (length (now (a .buf))) ≡ true
+headed c = sym (c .before .head-sound .ensures) ∙ not-false _ (c .if1 .left)
+
+head-sound-requires : tie.Need-head-sound-requires
+head-sound-requires c κs = search needs
+
+returns : tie.Need-returns
+returns c = sym (survey-head _ _ _ (sym (c .before .head-sound .ensures) ∙ not-true _ (c .if1 .taken)))
+
+returns-2 : tie.Need-returns-2
+returns-2 c = sym (survey-mark _ _ _ (headed (c .before)) (c .if2 .taken))
+
+cast-free-run : tie.Need-cast-free-run
+cast-free-run c = search needs
+
+cast-free-run-2 : tie.Need-cast-free-run-2
+cast-free-run-2 c = search needs
+
+free-run-requires : tie.Need-free-run-requires
+free-run-requires c κs = omega (arith, head-facts _ _ _ (headed (c .before .before .before)))
+
+returns-3 : tie.Need-returns-3
+returns-3 c =
+    let m = c .before .before .before .before .before in
+    sym (survey-open _ _ _ (headed (m .before)) (m .if2 .left) _ _ (c .before .before .free-run .ensures) (c .if3 .taken))
+
+returns-4 : tie.Need-returns-4
+returns-4 c =
+    let m = c .before .before .before .before .before in
+    sym (survey-closed _ _ _ (headed (m .before)) (m .if2 .left) _ _ (c .before .before .free-run .ensures) (c .if3 .left))
+
+pub survey-spec : {M : Type 1} → statement M
+survey-spec =
+    tie.close
+    (tie.spec
+    head-sound-requires
+    returns
+    returns-2
+    cast-free-run
+    cast-free-run-2
+    free-run-requires
+    returns-3
+    returns-4)

@@ -1,0 +1,68 @@
+-- The soundness check of a list as a computation, node by node: the longest run of nodes that is good by itself, and whether it stops at the end mark.
+-- Document 01, 'Words, nodes and a sound arena'.
+use mathlib.Core.Path.{_≡_}
+use mathlib.Core.Bool.{Bool, true, _&&_, not}
+use mathlib.Core.List.{List, [], _∷_, _++_}
+use Prim.Native.Nat.{ℕ, zero, suc, _/_, _%_, min, max}
+use lib.Dec.{leb, ltb, eqb}
+use lib.ListN.{length}
+use Rattle.words.specs.Word.{wordAt, endMark}
+use Rattle.records.specs.Pick.{pick}
+use Rattle.records.specs.declared.Order.{Order}
+use Rattle.freelist.specs.Segs.{Seg, endOf, segAt, nextAt, leads}
+use Rattle.freelist.specs.Place.{any}
+
+-- following next n times from p: where the walk stands then, and the segments that it passed
+abbrev pub after : (ℕ → ℕ) → ℕ → ℕ → ℕ
+after w zero p = p
+after w (suc n) p = after w n (nextAt w p)
+
+abbrev pub passed : (ℕ → ℕ) → ℕ → ℕ → List Seg
+passed w zero p = []
+passed w (suc n) p = segAt w p ∷ passed w n (nextAt w p)
+
+-- what a walk from head tells: it passed these segments, so many, and stands at stop
+pub record Walked (l : List ℕ) (head : ℕ) (segs : List Seg) (count stop : ℕ) : Type 0 where
+  pub counted : count ≡ length segs
+  pub stops : stop ≡ after (wordAt l) count head
+
+-- the bytes from a up to b and those from c up to d have one in common
+abbrev pub shares : ℕ → ℕ → ℕ → ℕ → Bool
+shares a b c d = ltb (max a c) (min b d)
+
+-- 01, refusal 7: whose bytes meet a free segment's, for the bytes from `from` up to `to`
+abbrev pub meets : List Seg → ℕ → ℕ → Bool
+meets segs from to = any (λ s. shares (s .offset) (endOf s) from to) segs
+
+-- 01, refusal 8: whose new top lies below the end of a free segment
+abbrev pub anyAbove : ℕ → List Seg → Bool
+anyAbove top segs = any (λ s. ltb top (endOf s)) segs
+
+-- 01: a multiple of 8, at least the data offset, has s >= 1 and ends at or below allocated
+unfoldable pub inRange : ℕ → ℕ → Seg → Bool
+inRange start top s = eqb (s .offset % 8) 0 && leb start (s .offset) && leb 1 (s .size) && leb (endOf s) top
+
+-- the order lets s follow the last of these
+abbrev pub follows : Order → List Seg → Seg → Bool
+follows o [] s = true
+follows o (t ∷ []) s = leads o t s
+follows o (t ∷ u ∷ us) s = follows o (u ∷ us) s
+
+-- s may be the next node after these
+unfoldable pub mayFollow : ℕ → ℕ → Order → List Seg → Seg → Bool
+mayFollow start top o seen s = inRange start top s && follows o seen s && not (meets seen (s .offset) (endOf s))
+
+-- of the nodes from p, at most n, as many as pass the test ok, which is told the nodes before
+unfoldable pub kept : ℕ → (ℕ → ℕ) → (List Seg → Seg → Bool) → List Seg → ℕ → List Seg
+kept zero w ok seen p = []
+kept (suc n) w ok seen p =
+    let rest = segAt w p ∷ kept n w ok (seen ++ segAt w p ∷ []) (nextAt w p) in
+    pick (not (eqb p endMark) && ok seen (segAt w p)) rest []
+
+-- the longest run of nodes from head that would be sound by itself; 01: at most cap / 16 nodes
+unfoldable pub goodRun : List ℕ → ℕ → ℕ → ℕ → Order → List Seg
+goodRun l head start top o = kept (length l / 16) (wordAt l) (mayFollow start top o) [] head
+
+-- 01: following next reaches the end mark
+unfoldable pub soundb : List ℕ → ℕ → ℕ → ℕ → Order → Bool
+soundb l head start top o = eqb (after (wordAt l) (length (goodRun l head start top o)) head) endMark

@@ -1,0 +1,6 @@
+-- The definitions that the contracts of this crate cite.
+pub mod Segs
+pub mod Place
+pub mod Check
+pub mod Link
+pub mod Sound

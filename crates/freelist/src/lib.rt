@@ -1,0 +1,391 @@
+// The free list in the bytes of a lent buffer: the soundness check, the place of a node, putting in and taking out.
+// A list is a buffer, the offset of its first node and the number of its nodes, which the check gives. The policies
+// share all of it: the order is a value. What the calls answer is the crate above.
+use records::Freelist;
+use records::Header;
+use records::Order;
+use records::Shape;
+ghost use mathlib.Core.Path.{_≡_};
+ghost use mathlib.Core.Logic.{_≢_};
+ghost use Prim.Native.Nat.{_+_, _-_, _≤_, _<_};
+ghost use lib.ListN.{length};
+ghost use Rattle.words.specs.Word.{wordAt, endMark};
+ghost use Rattle.freelist.specs.Segs.{leads, segAt, All, EndsBy, Run};
+ghost use Rattle.freelist.specs.Check.{after, passed, inRange, shares, meets, anyAbove, follows, mayFollow, goodRun, Walked};
+ghost use Rattle.freelist.specs.Place.{any};
+ghost use Rattle.freelist.specs.Link.{linkBytes, linkHead, sizes, passes, Stands, Spotted, Inserted, Removed};
+ghost use Rattle.freelist.specs.Sound.{freeFrom, sound, surveyed};
+
+// The end mark: where a list ends, and what stands before its first node.
+const END_MARK: usize = 4294967295;
+
+// 2 to the 32nd: a word is its size half times this, plus its next half.
+const HALF: u64 = 4294967296;
+
+// The bytes of a node before its data.
+const NODE_SIZE: usize = 8;
+
+// A test of a node: may this segment stand before it, has it room for so many bytes, has it a byte from `from` up to
+// `to`, does it end above this offset.
+pub enum Test {
+    Place {
+        order: Order,
+        offset: usize,
+        size: usize,
+    },
+    Room(usize),
+    Meets {
+        from: usize,
+        to: usize,
+    },
+    Above(usize),
+}
+
+// A place in a list: the nodes on both sides of it, the end mark where there is none, and how many nodes stand before.
+pub struct Spot {
+    pub prev: usize,
+    pub next: usize,
+    pub index: usize,
+}
+
+// How many nodes a walk passed, and where it stands then.
+struct Walk {
+    count: usize,
+    stop: usize,
+}
+
+// What the soundness check finds: a sound arena with so many free segments, or none.
+pub enum Finding {
+    Sound(usize),
+    Unsound,
+}
+
+// Whether a segment at p of size s may stand before one at q of size t.
+fn may_lead(order: Order, p: usize, s: usize, q: usize, t: usize) -> bool
+    ensures { λ r. ⌜ r ≡ leads order (record { offset = p; size = s }) (record { offset = q; size = t }) ⌝ }
+{
+    match order {
+        Order::Optimistic => t <= s,
+        Order::Pessimistic => s <= t,
+    }
+}
+
+// Whether the bytes from a up to b and those from c up to d have one in common.
+fn share(a: usize, b: usize, c: usize, d: usize) -> bool
+    ensures { λ r. ⌜ r ≡ shares a b c d ⌝ }
+{
+    let from = if a < c { c } else { a };
+    let to = if b < d { b } else { d };
+    from < to
+}
+
+// Whether the node at p of this size passes a test.
+fn passes_test(test: Test, p: usize, size: usize) -> bool
+    requires { ⌜ p + 8 + size < 18446744073709551616 ⌝ }
+    ensures { λ r. ⌜ r ≡ passes test (record { offset = p; size = size }) ⌝ }
+{
+    match test {
+        Test::Place {
+            order,
+            offset,
+            size: own,
+        } => may_lead(order, offset, own, p, size),
+        Test::Room(need) => need <= size,
+        Test::Meets { from, to } => share(p, p + NODE_SIZE + size, from, to),
+        Test::Above(top) => top < p + NODE_SIZE + size,
+    }
+}
+
+// Whether one of the first `count` nodes from `head` passes a test.
+fn any_passes(buf: &[u8], head: usize, count: usize, test: Test) -> bool
+    requires { ⌜ All (EndsBy (length (now buf))) (passed (wordAt (now buf)) count head) ⌝ }
+    ensures { λ r. ⌜ r ≡ any (passes test) (passed (wordAt (now (buf .entry))) count head) ⌝ }
+{
+    let mut p = head;
+    let mut left = count;
+    while 0 < left {
+        let node = words::node_at(buf, p);
+        if passes_test(test, p, node.size as usize) {
+            return true;
+        }
+        p = node.next as usize;
+        left -= 1;
+    }
+    false
+}
+
+// Whether one of the first `count` nodes from `head` has a byte from `from` up to `to`, `to` not included.
+pub fn any_meets(buf: &[u8], head: usize, count: usize, from: usize, to: usize) -> bool
+    requires { ⌜ All (EndsBy (length (now buf))) (passed (wordAt (now buf)) count head) ⌝ }
+    ensures { λ r. ⌜ r ≡ meets (passed (wordAt (now (buf .entry))) count head) from to ⌝ }
+{
+    any_passes(buf, head, count, Test::Meets { from, to })
+}
+
+// Whether one of the first `count` nodes from `head` ends above `top`.
+pub fn any_above(buf: &[u8], head: usize, count: usize, top: usize) -> bool
+    requires { ⌜ All (EndsBy (length (now buf))) (passed (wordAt (now buf)) count head) ⌝ }
+    ensures { λ r. ⌜ r ≡ anyAbove top (passed (wordAt (now (buf .entry))) count head) ⌝ }
+{
+    any_passes(buf, head, count, Test::Above(top))
+}
+
+// Whether a node may stand at p: its place, a size that is not 0, and its end. It is read once its word lies below the
+// top.
+fn node_ok(buf: &[u8], p: usize, start: usize, top: usize) -> bool
+    requires { ⌜ top ≤ length (now buf) ⌝ }
+    ensures { λ r. ⌜ r ≡ inRange start top (segAt (wordAt (now (buf .entry))) p) ⌝ }
+{
+    if p % 8 != 0 {
+        return false;
+    }
+    if p < start {
+        return false;
+    }
+    if top < NODE_SIZE {
+        return false;
+    }
+    if top - NODE_SIZE < p {
+        return false;
+    }
+    let size = words::node_at(buf, p).size as usize;
+    if size == 0 {
+        return false;
+    }
+    if top - NODE_SIZE - p < size {
+        return false;
+    }
+    true
+}
+
+// Whether the node at p may follow the last of the first `count` nodes from `head`, which stands at `prev`.
+fn follows_last(buf: &[u8], head: usize, count: usize, prev: usize, p: usize, order: Order) -> bool
+    requires { ⌜ All (EndsBy (length (now buf))) (passed (wordAt (now buf)) count head) ⌝ }
+    requires { ⌜ (0 < count → prev ≡ after (wordAt (now buf)) (count - 1) head) ⌝ }
+    requires { ⌜ p + 8 ≤ length (now buf) ⌝ }
+    ensures { λ r. ⌜ r ≡ follows order (passed (wordAt (now (buf .entry))) count head) (segAt (wordAt (now (buf .entry))) p) ⌝ }
+{
+    if count == 0 {
+        return true;
+    }
+    let last = words::node_at(buf, prev);
+    let node = words::node_at(buf, p);
+    may_lead(order, prev, last.size as usize, p, node.size as usize)
+}
+
+// Whether the node at p may be the next after the first `count` nodes from `head`.
+fn may_follow(
+    buf: &[u8],
+    head: usize,
+    count: usize,
+    prev: usize,
+    p: usize,
+    start: usize,
+    top: usize,
+    order: Order,
+) -> bool
+    requires { ⌜ top ≤ length (now buf) ⌝ }
+    requires { ⌜ All (EndsBy (length (now buf))) (passed (wordAt (now buf)) count head) ⌝ }
+    requires { ⌜ (0 < count → prev ≡ after (wordAt (now buf)) (count - 1) head) ⌝ }
+    ensures { λ r. ⌜ r ≡ mayFollow start top order (passed (wordAt (now (buf .entry))) count head) (segAt (wordAt (now (buf .entry))) p) ⌝ }
+{
+    if !node_ok(buf, p, start, top) {
+        return false;
+    }
+    if !follows_last(buf, head, count, prev, p, order) {
+        return false;
+    }
+    let end = p + NODE_SIZE + words::node_at(buf, p).size as usize;
+    if any_meets(buf, head, count, p, end) {
+        return false;
+    }
+    true
+}
+
+// The longest run of nodes from `head` that would be sound by itself. No sound list has more nodes than a sixteenth of
+// the buffer's length, so the walk ends there, and it ends on any bytes.
+fn good_run(buf: &[u8], head: usize, start: usize, top: usize, order: Order) -> Walk
+    requires { ⌜ top ≤ length (now buf) ⌝ }
+    ensures { λ r. ⌜ Walked (now (buf .entry)) head (goodRun (now (buf .entry)) head start top order) (r .count) (r .stop) ⌝ }
+{
+    let limit = buf.len() / 16;
+    let mut count = 0;
+    let mut prev = head;
+    let mut p = head;
+    while count < limit {
+        if p == END_MARK {
+            return Walk { count, stop: p };
+        }
+        if !may_follow(buf, head, count, prev, p, start, top, order) {
+            return Walk { count, stop: p };
+        }
+        prev = p;
+        p = words::node_at(buf, p).next as usize;
+        count += 1;
+    }
+    Walk { count, stop: p }
+}
+
+// The walk by a policy: None has no list to follow.
+fn free_run(buf: &[u8], head: usize, start: usize, top: usize, policy: Freelist) -> Walk
+    requires { ⌜ top ≤ length (now buf) ⌝ }
+    ensures { λ r. ⌜ Walked (now (buf .entry)) head (freeFrom policy start top (now (buf .entry)) head) (r .count) (r .stop) ⌝ }
+{
+    match policy {
+        Freelist::None => Walk {
+            count: 0,
+            stop: head,
+        },
+        Freelist::Ordered(order) => good_run(buf, head, start, top, order),
+    }
+}
+
+// The soundness check of any header over any bytes, with the number of the free segments.
+pub fn survey(shape: Shape, header: Header, buf: &[u8]) -> Finding
+    ensures { λ r. ⌜ r ≡ surveyed shape header (now (buf .entry)) ⌝ }
+{
+    if !records::head_sound(shape, header, buf) {
+        return Finding::Unsound;
+    }
+    let sentinel = header.sentinel;
+    if sentinel / HALF != END_MARK as u64 {
+        return Finding::Unsound;
+    }
+    let policy = shape.freelist;
+    let run = free_run(
+        buf,
+        (sentinel % HALF) as usize,
+        shape.data_offset as usize,
+        header.allocated as usize,
+        policy,
+    );
+    if run.stop != END_MARK {
+        return Finding::Unsound;
+    }
+    Finding::Sound(run.count)
+}
+
+// Whether the arena is sound.
+pub fn arena_sound(shape: Shape, header: Header, buf: &[u8]) -> bool
+    ensures { λ r. ⌜ r ≡ sound shape header (now (buf .entry)) ⌝ }
+{
+    let finding = survey(shape, header, buf);
+    match finding {
+        Finding::Sound(_) => true,
+        Finding::Unsound => false,
+    }
+}
+
+// The place in a list of `count` nodes of the first that passes a test.
+pub fn find_place(buf: &[u8], head: usize, count: usize, test: Test) -> Spot
+    requires { ⌜ All (EndsBy (length (now buf))) (passed (wordAt (now buf)) count head) ⌝ }
+    requires { ⌜ after (wordAt (now buf)) count head ≡ endMark ⌝ }
+    ensures { λ r. ⌜ Spotted (passed (wordAt (now (buf .entry))) count head) (passes test) (r .prev) (r .next) (r .index) ⌝ }
+{
+    let mut prev = END_MARK;
+    let mut p = head;
+    let mut left = count;
+    let mut index = 0;
+    while 0 < left {
+        let node = words::node_at(buf, p);
+        if passes_test(test, p, node.size as usize) {
+            return Spot {
+                prev,
+                next: p,
+                index,
+            };
+        }
+        prev = p;
+        p = node.next as usize;
+        left -= 1;
+        index += 1;
+    }
+    Spot {
+        prev,
+        next: p,
+        index,
+    }
+}
+
+// The link after the node at `prev` set to `to`, or the list's first where `prev` is the end mark: the first then.
+fn link(buf: &mut [u8], head: usize, prev: usize, to: usize) -> usize
+    requires { ⌜ (prev ≢ endMark → prev + 8 ≤ length (now buf)) ⌝ }
+    requires { ⌜ to < 4294967296 ⌝ }
+    ensures { λ r. ⌜ now (buf .exit) ≡ linkBytes (now (buf .entry)) prev to ⌝ }
+    ensures { λ r. ⌜ r ≡ linkHead head prev to ⌝ }
+{
+    if prev == END_MARK {
+        return to;
+    }
+    let node = words::node_at(buf, prev);
+    words::put_word(buf, prev, words::node_word(node.size, to as u32));
+    head
+}
+
+// A segment put into a list of `count` nodes where the order has it, before its equals: the list's first then.
+pub fn insert(
+    buf: &mut [u8],
+    head: usize,
+    count: usize,
+    order: Order,
+    offset: usize,
+    size: usize,
+) -> usize
+    requires { ⌜ All (EndsBy (length (now buf))) (passed (wordAt (now buf)) count head) ⌝ }
+    requires { ⌜ after (wordAt (now buf)) count head ≡ endMark ⌝ }
+    requires { ⌜ (offset + 8 + size ≤ length (now buf)) × (length (now buf) < 4294967295) ⌝ }
+    ensures { λ r.
+        ⌜
+        Inserted
+        (now (buf .entry))
+        (passed (wordAt (now (buf .entry))) count head)
+        head
+        order
+        (record { offset = offset; size = size })
+        (now (buf .exit))
+        r
+        ⌝ }
+{
+    let test = Test::Place {
+        order,
+        offset,
+        size,
+    };
+    let spot = find_place(buf, head, count, test);
+    let prev = spot.prev;
+    let next = spot.next;
+    words::put_word(buf, offset, words::node_word(size as u32, next as u32));
+    link(buf, head, prev, offset)
+}
+
+// The node at a place taken out of a list of `count` nodes: the list's first then.
+pub fn remove(buf: &mut [u8], head: usize, count: usize, spot: Spot) -> usize
+    requires { ⌜ All (EndsBy (length (now buf))) (passed (wordAt (now buf)) count head) ⌝ }
+    requires { ⌜ Stands (passed (wordAt (now buf)) count head) (spot .index) (spot .prev) (spot .next) ⌝ }
+    requires { ⌜ Run (wordAt (now buf)) head (passed (wordAt (now buf)) count head) endMark ⌝ }
+    requires { ⌜ spot .index < count ⌝ }
+    ensures { λ r. ⌜ Removed (now (buf .entry)) (passed (wordAt (now (buf .entry))) count head) head (spot .index) (now (buf .exit)) r ⌝ }
+{
+    let prev = spot.prev;
+    let at = spot.next;
+    let next = words::node_at(buf, at).next as usize;
+    link(buf, head, prev, next)
+}
+
+// The sum of the data sizes of a list of `count` nodes.
+pub fn sum_sizes(buf: &[u8], head: usize, count: usize) -> usize
+    requires { ⌜ All (EndsBy (length (now buf))) (passed (wordAt (now buf)) count head) ⌝ }
+    requires { ⌜ sizes (passed (wordAt (now buf)) count head) ≤ length (now buf) ⌝ }
+    ensures { λ r. ⌜ r ≡ sizes (passed (wordAt (now (buf .entry))) count head) ⌝ }
+{
+    let mut sum = 0;
+    let mut p = head;
+    let mut left = count;
+    while 0 < left {
+        let node = words::node_at(buf, p);
+        sum += node.size as usize;
+        p = node.next as usize;
+        left -= 1;
+    }
+    sum
+}
