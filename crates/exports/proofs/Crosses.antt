@@ -1,0 +1,112 @@
+-- The laws of the boundary. The outcome of a call on the arena that came over, sent, is what crosses. Nothing is lost on the way: load
+-- then store gives back the six numbers, store then load the header, a shape and a header that were sent are received as they were, and
+-- two answers with the same five numbers say the same.
+-- Assumes nothing.
+use Prim.Native.Nat.{ℕ, _<_}
+use mathlib.Core.Path.{_≡_, refl, ap, sym, _∙_}
+use mathlib.Core.Bool.{true, false, _||_}
+use mathlib.Core.List.{List, [], _∷_}
+use native.Mathlib.Omega.{arith}
+use lib.Dec.{eqb}
+use lib.ListN.{length, getD, length-set}
+use lib.Seq.{set-getD, sets-eq}
+use Rattle.words.specs.Word.{nodeWord, sizeHalf, nextHalf}
+use Rattle.records.specs.Pick.{pick}
+use Rattle.records.specs.Answer.{Outcome, outcome, leaves, Said, said, granted, nothing, givenBack, sum, done, refused}
+use Rattle.records.specs.Setup.{policyOf}
+use Rattle.records.specs.declared.Answer.{Answer}
+use Rattle.records.specs.declared.Answer.the-variants.{Granted, Nothing, GivenBack, Sum, Done, ReadOnly, Damaged, BadLayout, OutOfBounds, Overlap, CutsFreeList, InsufficientSpace}
+use Rattle.records.specs.declared.Arena.{Arena}
+use Rattle.records.specs.declared.Freelist.{Freelist}
+use Rattle.records.specs.declared.Freelist.the-variants.{None, Ordered}
+use Rattle.records.specs.declared.Header.{Header}
+use Rattle.records.specs.declared.Order.the-variants.{Optimistic, Pessimistic}
+use Rattle.records.specs.declared.Policy.the-variants.{Known}
+use Rattle.records.specs.declared.Reply.{Reply}
+use Rattle.records.specs.declared.Shape.{Shape}
+use Rattle.exports.specs.Crossing.{headerOf, stored, codeOf, shapeOut, shapeWith, received, numbersOf, answerOf, Sent, crossed, crossing}
+use Rattle.exports.specs.declared.CAnswer.{CAnswer}
+use Rattle.exports.specs.declared.CShape.{CShape}
+use Rattle.exports.specs.declared.Received.{Received}
+use Rattle.exports.specs.declared.Received.the-variants.{Read, Unreadable}
+
+-- load, then store: the six numbers are what they were, since the first is a u32
+pub stored-same : (n : List ℕ) → getD n 0 0 < 4294967296 → stored n (headerOf n) ≡ n
+stored-same n h =
+    let next : nextHalf (nodeWord (getD n 1 0) (getD n 0 0)) ≡ getD n 0 0 = omega arith in
+    let size : sizeHalf (nodeWord (getD n 1 0) (getD n 0 0)) ≡ getD n 1 0 = omega arith in
+    simp (next, size, set-getD)
+
+-- there are six numbers before and after
+pub stored-length : (n : List ℕ) (h : Header) → length (stored n h) ≡ length n
+stored-length n h = simp length-set
+
+-- store, then load: the header is what it was, so the next call goes on from the arena that the last one left
+pub loaded-same : (n : List ℕ) (h : Header) → length n ≡ 6 → headerOf (stored n h) ≡ h
+loaded-same n h six =
+    let joined : nodeWord (sizeHalf (h .sentinel)) (nextHalf (h .sentinel)) ≡ h .sentinel = omega arith in
+    let first : List ℕ = nextHalf (h .sentinel) ∷ sizeHalf (h .sentinel) ∷ h .allocated ∷ h .«min_segment_size» ∷ h .discarded ∷ [] in
+    ap headerOf (sets-eq first n 0 (omega arith)) ∙ simp joined
+
+module _ (c : CShape) (n l : List ℕ) (call : Shape → Header → List ℕ → Outcome) where
+  -- where no arena came over, the answer is 2 and nothing changes
+  pub crosses-unreadable : {r : Received} {a : CAnswer}
+      → r ≡ received c n → r ≡ Unreadable → a ≡ numbersOf 2 0 0 0 0 → crossed a n l ≡ crossing c n l call
+  unfolding crossing
+  crosses-unreadable came is says = simp (← came, is, says)
+
+  -- the outcome of a call on the arena that came over, sent, is what crosses
+  pub crosses : {r : Received} {x : Arena} {p : Reply} {a : CAnswer} {m k : List ℕ}
+      → r ≡ received c n → r ≡ Read x → outcome p k ≡ call (x .shape) (x .header) l → Sent n p a m → crossed a m k ≡ crossing c n l call
+  unfolding crossing
+  crosses came is did sent = simp (← came, is, ← did, sent .answers, sent .stores)
+
+  -- a call that leaves header and bytes as they were, as every refusal does, leaves the six numbers and the bytes on the other side too
+  pub crosses-same : {f : Freelist} {x : Said}
+      → policyOf (c .freelist) ≡ Known f → call (shapeWith c f) (headerOf n) l ≡ leaves x (headerOf n) l → getD n 0 0 < 4294967296
+      → crossing c n l call ≡ crossed (answerOf x) n l
+  unfolding crossing received
+  crosses-same {x = x} known did h = simp (known, did) (ap (λ (m : List ℕ). crossed (answerOf x) m l) (stored-same n h))
+
+-- a policy's code names it
+code-names : (f : Freelist) → policyOf (codeOf f) ≡ Known f
+unfolding policyOf
+code-names None = refl
+code-names (Ordered Optimistic) = refl
+code-names (Ordered Pessimistic) = refl
+
+-- a shape and a header that were sent are received as they were
+pub sent-received : (s : Shape) (h : Header) (n : List ℕ) → length n ≡ 6 → received (shapeOut s) (stored n h) ≡ Read (record { shape = s; header = h })
+unfolding received
+sent-received s h n six =
+    simp (code-names (s .freelist)) (ap (λ (k : Header). Read (record { shape = s; header = k })) (loaded-same n h six))
+
+-- what five numbers say
+heard : CAnswer → Said
+heard a =
+    pick (eqb (a .code) 100) (granted (record { «memory_offset» = a .first; «memory_size» = a .second; «usable_offset» = a .third; «usable_size» = a .fourth }))
+    (pick (eqb (a .code) 101) nothing
+    (pick (eqb (a .code) 102) (givenBack (eqb (a .first) 1))
+    (pick (eqb (a .code) 103) (sum (a .first))
+    (pick (eqb (a .code) 104) done
+    (refused (a .code) (pick (eqb (a .code) 6 || eqb (a .code) 9) (a .first ∷ a .second ∷ []) []))))))
+
+heard-said : (a : Answer) → heard (answerOf (said a)) ≡ said a
+unfolding heard
+heard-said (Granted b) = refl
+heard-said Nothing = refl
+heard-said (GivenBack true) = refl
+heard-said (GivenBack false) = refl
+heard-said (Sum n) = refl
+heard-said Done = refl
+heard-said ReadOnly = refl
+heard-said Damaged = refl
+heard-said BadLayout = refl
+heard-said (OutOfBounds offset allocated) = refl
+heard-said Overlap = refl
+heard-said CutsFreeList = refl
+heard-said (InsufficientSpace requested available) = refl
+
+-- two answers with the same five numbers say the same
+pub answers-tell : (a b : Answer) → answerOf (said a) ≡ answerOf (said b) → said a ≡ said b
+answers-tell a b e = sym (heard-said a) ∙ ap heard e ∙ heard-said b

@@ -1,0 +1,155 @@
+-- What crosses the boundary to Rust and C: numbers, a header as six numbers, and bytes. The calls behind it are document 01's.
+use Prim.Native.Nat.{ℕ}
+use mathlib.Core.Path.{_≡_}
+use mathlib.Core.Bool.{Bool, true, false}
+use mathlib.Core.List.{List}
+use lib.ListN.{getD, set}
+use Rattle.words.specs.Word.{nodeWord, sizeHalf, nextHalf}
+use Rattle.records.specs.Answer.{Outcome, Said, said, granted, nothing, givenBack, sum, done, refused, Began, ready, unready}
+use Rattle.records.specs.Setup.{policyOf, settingUp}
+use Rattle.records.specs.declared.Order.the-variants.{Optimistic, Pessimistic}
+use Rattle.records.specs.declared.Freelist.{Freelist}
+use Rattle.records.specs.declared.Freelist.the-variants.{None, Ordered}
+use Rattle.records.specs.declared.Policy.{Policy}
+use Rattle.records.specs.declared.Policy.the-variants.{Known, Unknown}
+use Rattle.records.specs.declared.Settings.{Settings}
+use Rattle.records.specs.declared.Shape.{Shape}
+use Rattle.records.specs.declared.Header.{Header}
+use Rattle.records.specs.declared.Reply.{Reply}
+use Rattle.freelist.specs.Sound.{sound}
+use Rattle.exports.specs.declared.CShape.{CShape}
+use Rattle.exports.specs.declared.CAnswer.{CAnswer}
+use Rattle.exports.specs.declared.CBegun.{CBegun}
+use Rattle.exports.specs.declared.Received.{Received}
+use Rattle.exports.specs.declared.Received.the-variants.{Read, Unreadable}
+
+-- the header's six numbers: the sentinel's next and size halves, allocated, minimum, discarded, and one that no call reads or writes
+abbrev pub headerOf : List ℕ → Header
+headerOf n =
+    record {
+      sentinel = nodeWord (getD n 1 0) (getD n 0 0);
+      allocated = getD n 2 0;
+      «min_segment_size» = getD n 3 0;
+      discarded = getD n 4 0;
+    }
+
+-- these six numbers with a header put in
+abbrev pub stored : List ℕ → Header → List ℕ
+stored n h =
+    set (set (set (set (set n 0 (nextHalf (h .sentinel))) 1 (sizeHalf (h .sentinel))) 2 (h .allocated)) 3 (h .«min_segment_size»)) 4 (h .discarded)
+
+-- the policy's code, the inverse of policyOf
+abbrev pub codeOf : Freelist → ℕ
+codeOf None = 0
+codeOf (Ordered Optimistic) = 1
+codeOf (Ordered Pessimistic) = 2
+
+-- a shape as it goes out
+abbrev pub shapeOut : Shape → CShape
+shapeOut s =
+    record {
+      cap = s .cap;
+      reserved = s .reserved;
+      «data_offset» = s .«data_offset»;
+      unify = s .unify;
+      «read_only» = s .«read_only»;
+      freelist = codeOf (s .freelist);
+    }
+
+-- a shape as it comes in, with the policy that its code names
+abbrev pub shapeWith : CShape → Freelist → Shape
+shapeWith c f =
+    record {
+      cap = c .cap;
+      reserved = c .reserved;
+      «data_offset» = c .«data_offset»;
+      unify = c .unify;
+      «read_only» = c .«read_only»;
+      freelist = f;
+    }
+
+-- the arena that came over; there is none where the shape's policy code is none of 0, 1, 2
+abbrev pub receivedBy : Policy → CShape → List ℕ → Received
+receivedBy Unknown c n = Unreadable
+receivedBy (Known f) c n = Read (record { shape = shapeWith c f; header = headerOf n })
+
+unfoldable pub received : CShape → List ℕ → Received
+received c n = receivedBy (policyOf (c .freelist)) c n
+
+-- an answer's five numbers
+abbrev pub numbersOf : ℕ → ℕ → ℕ → ℕ → ℕ → CAnswer
+numbersOf code a b c d = record { code = code; first = a; second = b; third = c; fourth = d }
+
+abbrev pub truth : Bool → ℕ
+truth true = 1
+truth false = 0
+
+-- a refusal's code is its number in 01; 100 is granted, 101 nothing, 102 given back, 103 a sum, 104 done; 0 stands where nothing is carried
+abbrev pub answerOf : Said → CAnswer
+answerOf (granted b) = numbersOf 100 (b .«memory_offset») (b .«memory_size») (b .«usable_offset») (b .«usable_size»)
+answerOf nothing = numbersOf 101 0 0 0 0
+answerOf (givenBack x) = numbersOf 102 (truth x) 0 0 0
+answerOf (sum n) = numbersOf 103 n 0 0 0
+answerOf done = numbersOf 104 0 0 0 0
+answerOf (refused code carried) = numbersOf code (getD carried 0 0) (getD carried 1 0) 0 0
+
+-- what is sent of a reply: the answer's numbers, and the header's
+pub record Sent (n : List ℕ) (r : Reply) (a : CAnswer) (m : List ℕ) : Type 0 where
+  pub answers : a ≡ answerOf (said (r .answer))
+  pub stores : m ≡ stored n (r .header)
+
+-- all that a call leaves on the other side
+pub record Crossed : Type 0 where
+  pub answer : CAnswer
+  pub header : List ℕ
+  pub bytes : List ℕ
+
+abbrev pub crossed : CAnswer → List ℕ → List ℕ → Crossed
+crossed a n l = record { answer = a; header = n; bytes = l }
+
+abbrev pub crossedBy : List ℕ → Outcome → Crossed
+crossedBy n o = crossed (answerOf (o .says)) (stored n (o .header)) (o .bytes)
+
+-- a call on the arena that came over; where there is none, refusal 2, and nothing changed
+abbrev pub crossingBy : Received → List ℕ → List ℕ → (Shape → Header → List ℕ → Outcome) → Crossed
+crossingBy Unreadable n l call = crossed (numbersOf 2 0 0 0 0) n l
+crossingBy (Read a) n l call = crossedBy n (call (a .shape) (a .header) l)
+
+unfoldable pub crossing : CShape → List ℕ → List ℕ → (Shape → Header → List ℕ → Outcome) → Crossed
+crossing c n l call = crossingBy (received c n) n l call
+
+-- the soundness check; it says no where no arena came over
+abbrev pub soundBy : Received → List ℕ → Bool
+soundBy Unreadable l = false
+soundBy (Read a) l = sound (a .shape) (a .header) l
+
+unfoldable pub soundReceived : CShape → List ℕ → List ℕ → Bool
+soundReceived c n l = soundBy (received c n) l
+
+-- what setup is asked for
+abbrev pub asked : ℕ → Bool → ℕ → ℕ → Bool → Settings
+asked reserved unify policy least readOnly =
+    record { reserved = reserved; unify = unify; policy = policy; «min_segment_size» = least; «read_only» = readOnly }
+
+-- all that setup leaves on the other side
+pub record Opened : Type 0 where
+  pub begun : CBegun
+  pub header : List ℕ
+
+abbrev pub opened : CBegun → List ℕ → Opened
+opened b n = record { begun = b; header = n }
+
+abbrev pub begunOf : ℕ → CShape → CBegun
+begunOf code c = record { code = code; shape = c }
+
+abbrev pub noShape : CShape
+noShape = record { cap = 0; reserved = 0; «data_offset» = 0; unify = false; «read_only» = false; freelist = 0 }
+
+-- 104 with the shape and a fresh header, or a refusal with neither
+abbrev pub openingBy : Began → List ℕ → Opened
+openingBy (ready s h) n = opened (begunOf 104 (shapeOut s)) (stored n h)
+openingBy (unready code) n = opened (begunOf code noShape) n
+
+-- setup over a buffer of cap bytes
+unfoldable pub opening : Settings → ℕ → List ℕ → Opened
+opening s cap n = openingBy (settingUp s cap) n

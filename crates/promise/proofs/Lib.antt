@@ -1,0 +1,19 @@
+-- The theorems on whole days of calls.
+pub mod Ledger
+pub mod Members
+pub mod Blocks
+pub mod Stills
+pub mod Holding
+pub mod Cuts
+pub mod Looks
+pub mod Cases
+pub mod Takes
+pub mod Gives
+pub mod Rewinds
+pub mod Starts
+pub mod Grants
+pub mod DemandThree
+pub mod HeldBytes
+pub mod OneResult
+pub mod WrongPrograms
+pub mod Steps

@@ -1,0 +1,232 @@
+-- Programs that the promises shut out, each refuted at a small arena by computing. The contracts shut out one that refuses everything, one that records
+-- nothing or no node's word, an invented discard sum and an invented count of discarded bytes. Demand 3 shuts out one fixed block each time, one that
+-- manages its list only for the first give-back and one that refuses everything past the top. Assumes nothing.
+use Prim.Native.Nat.{ℕ, _+_, _≤_}
+use mathlib.Core.Path.{_≡_, refl, sym, ap, _∙_}
+use mathlib.Core.Logic.{_↔_, inl}
+use mathlib.Core.Bool.{true, false, false≢true}
+use mathlib.Core.List.{List, [], List·Memᴰ, List·Memᴰ·head, List·Memᴰ·tail}
+use native.Mathlib.Omega.{arith}
+use lib.Dec.{ltb, eqb}
+use lib.ListN.{length, replicate, getD}
+use Rattle.words.specs.Round as R
+use Rattle.words.specs.Word as W
+use Rattle.records.specs.Pick.{pick}
+use Rattle.records.specs.Answer.{Outcome, Said, granted, nothing, givenBack, sum, done, refused, ready, leaves, refuses}
+use Rattle.records.specs.Setup as St
+use Rattle.records.specs.Change.{withFirst, losing}
+use Rattle.records.specs.Head as Hd
+use Rattle.records.specs.Rule as Ru
+use Rattle.records.specs.declared.Order.the-variants.{Optimistic}
+use Rattle.records.specs.declared.Freelist.{Freelist}
+use Rattle.records.specs.declared.Freelist.the-variants.{None, Ordered}
+use Rattle.records.specs.declared.Settings.{Settings}
+use Rattle.records.specs.declared.Shape.{Shape}
+use Rattle.records.specs.declared.Header.{Header}
+use Rattle.records.specs.declared.Block.{Block}
+use Rattle.records.specs.declared.Request.{Request}
+use Rattle.records.specs.declared.Request.the-variants.{Bytes}
+use Rattle.records.specs.declared.Segment.{Segment}
+use Rattle.records.specs.declared.Segment.the-variants.{At, Refused}
+use Rattle.requests.specs.Request as Rq
+use Rattle.requests.specs.Request.{block, plain, want, need}
+use Rattle.freelist.specs.Segs.{Seg, Pairwise}
+use Rattle.freelist.specs.Check as C
+use Rattle.freelist.specs.Link as L
+use Rattle.freelist.specs.Sound as So
+use Rattle.freelist.specs.Sound.{Sound, sound, free, firstOf}
+use Rattle.freelist.proofs.Arenas.{sound-iff}
+use Rattle.arena.specs.Take as T
+use Rattle.arena.specs.Give as G
+use Rattle.arena.specs.Rewind as Re
+use Rattle.promise.specs.declared.Call.{Call}
+use Rattle.promise.specs.declared.Call.the-variants.{Take, Give, Discard, Rewind, SetMinimum, AddDiscarded}
+use Rattle.promise.specs.Calls.{performed}
+use Rattle.promise.specs.Runs.{State, Holds, heldAfter, Allowed, Reached, fresh, call, PastTop, freeIn}
+use Rattle.promise.proofs.DemandThree.{demand-three}
+
+-- a program answers every call on any arena
+abbrev pub Program : Type 0
+Program = Shape → Header → List ℕ → Call → Outcome
+
+-- it meets the contracts where it leaves what they state
+abbrev pub Meets : Program → Type 0
+Meets p = (s : Shape) (h : Header) (l : List ℕ) (c : Call) → p s h l c ≡ performed s h l c
+
+-- the states that it brings about, from a fresh writable arena, where callers write nothing and give back only held blocks
+abbrev pub leftBy : Program → Shape → State → Call → State
+leftBy p s st c =
+    let o = p s (st .header) (st .bytes) c in
+    record { header = o .header; bytes = o .bytes; held = heldAfter (st .held) c (o .says) (o .header .allocated) }
+
+pub data Brought (p : Program) (s : Shape) : State → Type 0 where
+  begun : (settings : Settings) (h : Header) (l : List ℕ) → St.settingUp settings (length l) ≡ ready s h → s .«read_only» ≡ false → Brought p s (record { header = h; bytes = l; held = [] })
+  next : {st : State} (c : Call) → Allowed st c → Brought p s st → Brought p s (leftBy p s st c)
+
+-- demand 3 of it: the arena is sound; held blocks share no byte; past the top it grants exactly if some segment has room
+abbrev pub Sounds : Program → Type 0
+Sounds p = (s : Shape) (st : State) → Brought p s st → Sound s (st .header) (st .bytes)
+
+abbrev pub Parts : Program → Type 0
+Parts p = (s : Shape) (st : State) → Brought p s st → Pairwise (λ a b. (x : ℕ) → Holds a x → Holds b x → ⊥) (st .held)
+
+abbrev pub Serves : Program → Type 0
+Serves p = (s : Shape) (st : State) → Brought p s st → (r : Request) → PastTop s st r → (s .freelist ≡ None → ⊥)
+    → ((b : Block) × (p s (st .header) (st .bytes) (Take r) .says ≡ granted b)) ↔ ((g : Seg) × List·Memᴰ g (freeIn s st) × (need (plain r) ≤ g .size))
+
+-- the program that the contracts state has all this
+brought-reached : (s : Shape) {st : State} → Brought performed s st → Reached s st
+brought-reached s (begun settings h l e w) = fresh settings h l e w
+brought-reached s (next c a b) = call c a (brought-reached s b)
+
+pub performed-sounds : Sounds performed
+performed-sounds s st b = demand-three s st (brought-reached s b) .is-sound
+
+pub performed-parts : Parts performed
+performed-parts s st b = demand-three s st (brought-reached s b) .held-apart
+
+pub performed-serves : Serves performed
+performed-serves s st b = demand-three s st (brought-reached s b) .grants
+
+-- an arena of 64 bytes, and it fresh
+abbrev small : Shape
+small = record { cap = 64; reserved = 7; «data_offset» = 8; unify = false; «read_only» = false; freelist = Ordered Optimistic }
+
+abbrev begin : State
+begin = record { header = St.freshHeader 8 0; bytes = replicate 64 0; held = [] }
+
+begin-brought : (p : Program) → Brought p small begin
+unfolding St.settingUp St.policyOf St.dataOffset
+begin-brought p = begun (record { reserved = 7; unify = false; policy = 1; «min_segment_size» = 0; «read_only» = false }) (begin .header) (begin .bytes) refl refl
+
+-- the sum that is said
+abbrev sumOf : Said → ℕ
+sumOf (granted b) = 0
+sumOf nothing = 0
+sumOf (givenBack b) = 0
+sumOf (sum n) = n
+sumOf done = 0
+sumOf (refused n c) = 0
+
+-- a program that leaves every header as it was meets no contract
+module _ (p : Program) (leaves-header : (s : Shape) (h : Header) (l : List ℕ) (c : Call) → p s h l c .header ≡ h) where
+  same-header-out : Meets p → ⊥
+  unfolding R.roundUp W.splice W.zeroed St.dataOffset Hd.headSound Rq.wellFormed Rq.plain Rq.forNothing Rq.want Rq.topBlock Rq.zeroedFrom T.fromTop T.taking
+  same-header-out m =
+      let c = Take (Bytes 24) in
+      let z : _≡_ {A = ℕ} 8 32 = sym (ap (λ (h : Header). h .allocated) (leaves-header small (begin .header) (begin .bytes) c)) ∙ ap (λ (o : Outcome). o .header .allocated) (m small (begin .header) (begin .bytes) c) in
+      omega arith
+
+-- so one that refuses everything
+abbrev pub refusesAll : Program
+refusesAll s h l c = refuses 1 [] h l
+
+pub refuses-all-out : Meets refusesAll → ⊥
+refuses-all-out = same-header-out refusesAll (λ s h l c. refl)
+
+-- and one that records nothing
+abbrev pub recordsNothing : Program
+recordsNothing s h l c = leaves (performed s h l c .says) h l
+
+pub records-nothing-out : Meets recordsNothing → ⊥
+records-nothing-out = same-header-out recordsNothing (λ s h l c. refl)
+
+-- one fixed block each time
+abbrev always : Said → Said
+always (granted b) = granted (block 8 8 8 8)
+always nothing = nothing
+always (givenBack b) = givenBack b
+always (sum n) = sum n
+always done = done
+always (refused n c) = refused n c
+
+abbrev pub oneBlock : Program
+oneBlock s h l c = leaves (always (performed s h l c .says)) (performed s h l c .header) (performed s h l c .bytes)
+
+pub one-block-out : Parts oneBlock → ⊥
+unfolding R.roundUp W.splice W.zeroed St.dataOffset Hd.headSound Rq.wellFormed Rq.plain Rq.forNothing Rq.want Rq.topBlock Rq.zeroedFrom T.fromTop T.taking
+one-block-out m =
+    let two = next (Take (Bytes 8)) tt (next (Take (Bytes 8)) tt (begin-brought oneBlock)) in
+    let byte : Holds (block 8 8 8 8) 8 = inl (omega arith, omega arith) in
+    m small _ two .0 .0 8 byte byte
+
+-- three blocks, up to the capacity: (8,24), (32,16), (48,16)
+abbrev takenBy : Program → State
+takenBy p = leftBy p small (leftBy p small (leftBy p small begin (Take (Bytes 24))) (Take (Bytes 16))) (Take (Bytes 16))
+
+taken-brought : (p : Program) → Brought p small (takenBy p)
+taken-brought p = next (Take (Bytes 16)) tt (next (Take (Bytes 16)) tt (next (Take (Bytes 24)) tt (begin-brought p)))
+
+-- one that records the header and no node's word
+abbrev pub recordsNoWord : Program
+recordsNoWord s h l c = leaves (performed s h l c .says) (performed s h l c .header) l
+
+pub records-no-word-out : Meets recordsNoWord → ⊥
+unfolding R.roundUp W.valueOf W.digits W.splice W.wordAt W.putWord W.zeroed St.dataOffset Hd.headSound Ru.segmentOf Rq.wellFormed Rq.plain Rq.forNothing Rq.want Rq.topBlock Rq.zeroedFrom C.inRange C.mayFollow C.kept C.goodRun C.soundb L.linkBytes L.linkHead L.insertBytes L.insertHead So.sound So.free T.fromTop T.taking G.putIn G.belowTop G.givingBack
+records-no-word-out m =
+    let z : _≡_ {A = ℕ} 0 16 = ap (λ (o : Outcome). getD (o .bytes) 12 0) (m small (takenBy performed .header) (takenBy performed .bytes) (Give 8 24)) in
+    omega arith
+
+-- one that manages its list only for the first give-back: later ones stand in front, whatever their size
+abbrev front : Header → List ℕ → ℕ → Segment → Outcome
+front h l size Refused = leaves (givenBack false) (losing h size) l
+front h l size (At p n) = leaves (givenBack true) (losing (withFirst h p) 8) (W.putWord l p (W.nodeWord n (firstOf h)))
+
+abbrev pub firstOnly : Program
+firstOnly s h l (Take r) = performed s h l (Take r)
+firstOnly s h l (Give offset size) =
+    pick (eqb (length (free s h l)) 0) (performed s h l (Give offset size)) (front h l size (Ru.segmentOf (h .«min_segment_size») offset size))
+firstOnly s h l Discard = performed s h l Discard
+firstOnly s h l (Rewind p) = performed s h l (Rewind p)
+firstOnly s h l (SetMinimum n) = performed s h l (SetMinimum n)
+firstOnly s h l (AddDiscarded n) = performed s h l (AddDiscarded n)
+
+pub first-only-out : Sounds firstOnly → ⊥
+unfolding R.roundUp W.valueOf W.digits W.splice W.wordAt W.putWord W.zeroed St.dataOffset Hd.headSound Ru.segmentOf Rq.wellFormed Rq.plain Rq.forNothing Rq.want Rq.topBlock Rq.zeroedFrom C.inRange C.mayFollow C.kept C.goodRun C.soundb L.linkBytes L.linkHead L.insertBytes L.insertHead So.sound So.free T.fromTop T.taking G.putIn G.belowTop G.givingBack
+first-only-out m =
+    let once = next (Give 8 24) (block 8 24 8 24, List·Memᴰ·tail (List·Memᴰ·tail (List·Memᴰ·head refl)), refl, refl) (taken-brought firstOnly) in
+    let twice = next (Give 32 16) (block 32 16 32 16, List·Memᴰ·tail (List·Memᴰ·head refl), refl, refl) once in
+    false≢true (sound-iff _ _ _ .1 (m small _ twice))
+
+-- one that refuses everything past the top
+abbrev pub refusesPast : Program
+refusesPast s h l (Take r) = pick (ltb (s .cap) (want (h .allocated) (plain r))) (refuses 9 [] h l) (performed s h l (Take r))
+refusesPast s h l (Give offset size) = performed s h l (Give offset size)
+refusesPast s h l Discard = performed s h l Discard
+refusesPast s h l (Rewind p) = performed s h l (Rewind p)
+refusesPast s h l (SetMinimum n) = performed s h l (SetMinimum n)
+refusesPast s h l (AddDiscarded n) = performed s h l (AddDiscarded n)
+
+pub refuses-past-out : Serves refusesPast → ⊥
+unfolding R.roundUp W.valueOf W.digits W.splice W.wordAt W.putWord W.zeroed St.dataOffset Hd.headSound Ru.segmentOf Rq.wellFormed Rq.plain Rq.forNothing Rq.want Rq.need Rq.topBlock Rq.zeroedFrom C.inRange C.mayFollow C.kept C.goodRun C.soundb L.linkBytes L.linkHead L.insertBytes L.insertHead So.sound So.free T.fromTop T.taking G.putIn G.belowTop G.givingBack
+refuses-past-out m =
+    let once = next (Give 8 24) (block 8 24 8 24, List·Memᴰ·tail (List·Memᴰ·tail (List·Memᴰ·head refl)), refl, refl) (taken-brought refusesPast) in
+    let ten : PastTop small (leftBy refusesPast small (takenBy refusesPast) (Give 8 24)) (Bytes 10) = record { formed = refl; some = refl; past = omega arith } in
+    let ordered : _≡_ {A = Freelist} (Ordered Optimistic) None → ⊥ = λ e. let z : _≡_ {A = ℕ} 0 1 = cc in omega arith in
+    let b = m small _ once (Bytes 10) ten ordered .1 (record { offset = 8; size = 16 }, List·Memᴰ·head refl, omega arith) in
+    let z : _≡_ {A = ℕ} 0 1 = cc (b .1) in
+    omega arith
+
+-- an invented discard sum
+abbrev invented : Said → Said
+invented (granted b) = granted b
+invented nothing = nothing
+invented (givenBack b) = givenBack b
+invented (sum n) = sum (n + 1)
+invented done = done
+invented (refused n c) = refused n c
+
+abbrev pub inventsSum : Program
+inventsSum s h l c = leaves (invented (performed s h l c .says)) (performed s h l c .header) (performed s h l c .bytes)
+
+pub invents-sum-out : Meets inventsSum → ⊥
+unfolding W.wordAt St.dataOffset Hd.headSound C.kept C.goodRun C.soundb So.sound So.free Re.discarding
+invents-sum-out m = let z : _≡_ {A = ℕ} 1 0 = ap (λ (o : Outcome). sumOf (o .says)) (m small (begin .header) (begin .bytes) Discard) in omega arith
+
+-- an invented count of discarded bytes
+abbrev pub inventsCount : Program
+inventsCount s h l c = leaves (performed s h l c .says) (losing (performed s h l c .header) 1) (performed s h l c .bytes)
+
+pub invents-count-out : Meets inventsCount → ⊥
+unfolding W.wordAt St.dataOffset Hd.headSound C.kept C.goodRun C.soundb So.sound So.free Re.discarding
+invents-count-out m = let z : _≡_ {A = ℕ} 1 0 = ap (λ (o : Outcome). o .header .discarded) (m small (begin .header) (begin .bytes) Discard) in omega arith

@@ -1,0 +1,3 @@
+-- Statements over whole days of calls.
+pub mod Calls
+pub mod Runs

@@ -1,0 +1,171 @@
+//! The ledger of document 01 through the wrapper.
+
+use arena::{Arena, Block, Freelist, Position, Refusal, Settings};
+
+fn settings(freelist: Freelist, reserved: u32) -> Settings {
+    Settings { reserved, freelist: freelist as u8, ..Settings::default() }
+}
+
+fn block(memory_offset: u32, memory_size: u32, usable_offset: u32, usable_size: u32) -> Result<Option<Block>, Refusal> {
+    Ok(Some(Block { memory_offset, memory_size, usable_offset, usable_size }))
+}
+
+/// Start S: three blocks fill 200 bytes, and the first two are given back. Their bytes hold 7s.
+fn start(buf: &mut [u8; 200], freelist: Freelist) -> Arena<'_> {
+    let mut arena = Arena::new(buf, settings(freelist, 7)).unwrap();
+    for (size, at) in [(40, 8), (60, 48), (92, 108)] {
+        let taken = arena.alloc_bytes(size);
+        assert_eq!(taken, block(at, size, at, size));
+        arena.bytes_mut(&taken.unwrap().unwrap()).fill(7);
+    }
+    assert_eq!(arena.dealloc(8, 40), Ok(true));
+    assert_eq!(arena.dealloc(48, 60), Ok(true));
+    assert_eq!((arena.discarded(), arena.allocated()), (16, 200));
+    assert!(arena.sound());
+    arena
+}
+
+/// The list's nodes with their data sizes, read from header and bytes.
+fn list(arena: &Arena) -> Vec<(u32, u32)> {
+    let mut nodes = Vec::new();
+    let mut at = arena.header()[0];
+    while at != u32::MAX {
+        let word = Block { memory_offset: at, memory_size: 8, usable_offset: at, usable_size: 8 };
+        let word = u64::from_le_bytes(arena.bytes(&word).try_into().unwrap());
+        nodes.push((at, (word >> 32) as u32));
+        at = word as u32;
+    }
+    nodes
+}
+
+#[test]
+fn order() {
+    assert_eq!(list(&start(&mut [0; 200], Freelist::Pessimistic)), [(8, 32), (48, 52)]);
+    assert_eq!(list(&start(&mut [0; 200], Freelist::Optimistic)), [(48, 52), (8, 32)]);
+}
+
+#[test]
+fn bytes_30_without_a_split() {
+    assert_eq!(start(&mut [0; 200], Freelist::Pessimistic).alloc_bytes(30), block(8, 32, 16, 30));
+    assert_eq!(start(&mut [0; 200], Freelist::Optimistic).alloc_bytes(30), block(48, 52, 56, 30));
+}
+
+#[test]
+fn bytes_4() {
+    let mut buf = [0; 200];
+    let mut arena = start(&mut buf, Freelist::Optimistic);
+    assert_eq!(arena.alloc_bytes(4), block(48, 4, 56, 4));
+    assert_eq!(list(&arena), [(64, 36), (8, 32)]);
+    assert_eq!(arena.discarded(), 24);
+
+    let mut buf = [0; 200];
+    let mut arena = start(&mut buf, Freelist::Pessimistic);
+    assert_eq!(arena.alloc_bytes(4), block(8, 32, 16, 4));
+    assert_eq!(arena.discarded(), 16);
+}
+
+#[test]
+fn bytes_53_are_too_many() {
+    let refused = |available| Err(Refusal::InsufficientSpace { requested: 53, available });
+    assert_eq!(start(&mut [0; 200], Freelist::Pessimistic).alloc_bytes(53), refused(0));
+    assert_eq!(start(&mut [0; 200], Freelist::Optimistic).alloc_bytes(53), refused(52));
+}
+
+#[test]
+fn typed_from_the_list() {
+    let mut buf = [0; 200];
+    let taken = start(&mut buf, Freelist::Pessimistic).alloc(8, 8);
+    assert_eq!(taken, block(8, 32, 8, 8));
+    assert_eq!(buf[16..31], [0; 15]);
+    assert_eq!(buf[31..48], [7; 17]);
+}
+
+#[test]
+fn give_back_at_the_top() {
+    let mut buf = [0; 200];
+    let mut arena = start(&mut buf, Freelist::Pessimistic);
+    assert_eq!(arena.dealloc(108, 92), Ok(true));
+    assert_eq!(arena.allocated(), 108);
+}
+
+#[test]
+fn segment_rule() {
+    for (minimum, offset, size, kept) in [
+        (20, 16, 28, Some((16, 20))),
+        (20, 16, 27, None),
+        (0, 16, 9, Some((16, 1))),
+        (0, 16, 8, None),
+        (20, 13, 33, Some((16, 22))),
+    ] {
+        let mut buf = [0; 200];
+        let mut arena = Arena::new(&mut buf, settings(Freelist::Pessimistic, 7)).unwrap();
+        arena.set_minimum_segment_size(minimum).unwrap();
+        arena.alloc_bytes(192).unwrap();
+        assert_eq!(arena.dealloc(offset, size), Ok(kept.is_some()));
+        assert_eq!(list(&arena), Vec::from_iter(kept));
+        assert_eq!(arena.discarded(), if kept.is_some() { 8 } else { size });
+    }
+}
+
+#[test]
+fn data_offsets() {
+    for (reserved, plain, unified) in [(0, 1, 32), (1, 2, 40), (8, 9, 40), (9, 10, 48)] {
+        for (unify, start) in [(false, plain), (true, unified)] {
+            let mut buf = [0; 64];
+            let arena = Arena::new(&mut buf, Settings { reserved, unify, ..Settings::default() }).unwrap();
+            assert_eq!((arena.allocated(), arena.shape().data_offset), (start, start));
+            assert_eq!(arena.remaining(), 64 - start);
+        }
+    }
+}
+
+#[test]
+fn typed_at_the_top() {
+    let mut buf = [0; 200];
+    let mut arena = Arena::new(&mut buf, Settings::default()).unwrap();
+    assert_eq!(arena.alloc(8, 8), block(1, 15, 8, 8));
+}
+
+#[test]
+fn no_list() {
+    let mut buf = [0; 20];
+    let mut arena = Arena::new(&mut buf, settings(Freelist::None, 12)).unwrap();
+    let refused = |requested| Err(Refusal::InsufficientSpace { requested, available: 7 });
+    assert_eq!(arena.alloc(8, 8), refused(24));
+    assert_eq!(arena.alloc_aligned_bytes(8, 8, 0), refused(8));
+}
+
+#[test]
+fn rewind() {
+    use Position::{Current, End, Start};
+    for (position, top) in [
+        (Start(0), 8),
+        (Start(500), 200),
+        (Current(-108), 108),
+        (Current(-109), 8),
+        (Current(-101), 8),
+        (Current(92), 200),
+        (Current(i64::MAX), 200),
+        (Current(i64::MIN), 8),
+        (End(150), 50),
+        (End(201), 8),
+    ] {
+        let mut buf = [0; 200];
+        let mut arena = Arena::new(&mut buf, settings(Freelist::Pessimistic, 7)).unwrap();
+        arena.alloc_bytes(100).unwrap();
+        assert_eq!(arena.rewind(position), Ok(()));
+        assert_eq!(arena.allocated(), top, "{position:?}");
+    }
+}
+
+#[test]
+fn list_is_kept_whole() {
+    for freelist in [Freelist::Optimistic, Freelist::Pessimistic] {
+        let mut buf = [0; 200];
+        let mut arena = start(&mut buf, freelist);
+        assert_eq!(arena.rewind(Position::End(150)), Err(Refusal::CutsFreeList));
+        assert_eq!(arena.dealloc(8, 40), Err(Refusal::Overlap));
+        assert_eq!(arena.discard_freelist(), Ok(84));
+        assert_eq!((list(&arena), arena.discarded()), (vec![], 100));
+    }
+}
