@@ -100,10 +100,11 @@ ArenaBegun arena_setup(ArenaHeader *header, const uint8_t *buf, size_t len, uint
 /* `size` bytes, zeroed. Refuses 1, 5, 4, 9; 101 where size is 0. */
 ArenaAnswer arena_alloc_bytes(ArenaShape shape, ArenaHeader *header, uint8_t *buf, size_t len, uint32_t size);
 
-/* Room for a value of this size and alignment, its usable part zeroed. Refuses 1, 5, 4, 9; 101 where size is 0. */
+/* Room for a value of this size and alignment. At the top its usable part is zeroed; where it comes from the list, the eight bytes of the old
+   node word may remain at its start. Refuses 1, 5, 4, 9; 101 where size is 0. */
 ArenaAnswer arena_alloc(ArenaShape shape, ArenaHeader *header, uint8_t *buf, size_t len, uint32_t size, uint32_t align);
 
-/* Room for a value of this size and alignment with `extra` bytes after it, not zeroed; where size is 0, `extra` bytes as by
+/* Room for a value of this size and alignment with `extra` bytes after it. At the top nothing is zeroed. Where size is 0, `extra` bytes as by
    arena_alloc_bytes. Refuses 1, 5, 4, 9. */
 ArenaAnswer arena_alloc_aligned_bytes(ArenaShape shape, ArenaHeader *header, uint8_t *buf, size_t len, uint32_t size, uint32_t align,
                                       uint32_t extra);
