@@ -288,7 +288,8 @@ fn give_below(
     let Segment::At {
         offset: node,
         size: rest,
-    } = segment else {
+    } = segment
+    else {
         return Reply {
             answer: Answer::GivenBack(false),
             header: records::lose(header, size),

@@ -232,7 +232,7 @@ pub extern "C" fn arena_setup(
 ) -> CBegun
     ensures { λ r.
         ⌜ opened r (now (header .exit))
-            ≡ opening (asked reserved unify policy «min_segment_size» «read_only») (length (now (buf .entry))) (now (header .entry)) ⌝ }
+        ≡ opening (asked reserved unify policy «min_segment_size» «read_only») (length (now (buf .entry))) (now (header .entry)) ⌝ }
 {
     let settings = Settings {
         reserved,
@@ -264,7 +264,7 @@ pub extern "C" fn arena_alloc_bytes(
 ) -> CAnswer
     ensures { λ r.
         ⌜ crossed r (now (header .exit)) (now (buf .exit))
-            ≡ crossing shape (now (header .entry)) (now (buf .entry)) (λ s h l. taking s h l (Bytes size)) ⌝ }
+        ≡ crossing shape (now (header .entry)) (now (buf .entry)) (λ s h l. taking s h l (Bytes size)) ⌝ }
 {
     let Received::Read(here) = receive(shape, header) else {
         return unreadable();
@@ -284,7 +284,7 @@ pub extern "C" fn arena_alloc(
 ) -> CAnswer
     ensures { λ r.
         ⌜ crossed r (now (header .exit)) (now (buf .exit))
-            ≡ crossing shape (now (header .entry)) (now (buf .entry)) (λ s h l. taking s h l (Typed size align)) ⌝ }
+        ≡ crossing shape (now (header .entry)) (now (buf .entry)) (λ s h l. taking s h l (Typed size align)) ⌝ }
 {
     let Received::Read(here) = receive(shape, header) else {
         return unreadable();
@@ -305,7 +305,7 @@ pub extern "C" fn arena_alloc_aligned_bytes(
 ) -> CAnswer
     ensures { λ r.
         ⌜ crossed r (now (header .exit)) (now (buf .exit))
-            ≡ crossing shape (now (header .entry)) (now (buf .entry)) (λ s h l. taking s h l (Aligned size align extra)) ⌝ }
+        ≡ crossing shape (now (header .entry)) (now (buf .entry)) (λ s h l. taking s h l (Aligned size align extra)) ⌝ }
 {
     let Received::Read(here) = receive(shape, header) else {
         return unreadable();
@@ -325,7 +325,7 @@ pub extern "C" fn arena_dealloc(
 ) -> CAnswer
     ensures { λ r.
         ⌜ crossed r (now (header .exit)) (now (buf .exit))
-            ≡ crossing shape (now (header .entry)) (now (buf .entry)) (λ s h l. givingBack s h l offset size) ⌝ }
+        ≡ crossing shape (now (header .entry)) (now (buf .entry)) (λ s h l. givingBack s h l offset size) ⌝ }
 {
     let Received::Read(here) = receive(shape, header) else {
         return unreadable();
@@ -343,7 +343,7 @@ pub extern "C" fn arena_discard_freelist(
 ) -> CAnswer
     ensures { λ r.
         ⌜ crossed r (now (header .exit)) (now (buf .entry))
-            ≡ crossing shape (now (header .entry)) (now (buf .entry)) (λ s h l. discarding s h l) ⌝ }
+        ≡ crossing shape (now (header .entry)) (now (buf .entry)) (λ s h l. discarding s h l) ⌝ }
 {
     let Received::Read(here) = receive(shape, header) else {
         return unreadable();
@@ -362,7 +362,7 @@ pub extern "C" fn arena_rewind_start(
 ) -> CAnswer
     ensures { λ r.
         ⌜ crossed r (now (header .exit)) (now (buf .entry))
-            ≡ crossing shape (now (header .entry)) (now (buf .entry)) (λ s h l. rewinding s h l (Start x)) ⌝ }
+        ≡ crossing shape (now (header .entry)) (now (buf .entry)) (λ s h l. rewinding s h l (Start x)) ⌝ }
 {
     let Received::Read(here) = receive(shape, header) else {
         return unreadable();
@@ -380,7 +380,7 @@ pub extern "C" fn arena_rewind_current(
 ) -> CAnswer
     ensures { λ r.
         ⌜ crossed r (now (header .exit)) (now (buf .entry))
-            ≡ crossing shape (now (header .entry)) (now (buf .entry)) (λ s h l. rewinding s h l (Current d)) ⌝ }
+        ≡ crossing shape (now (header .entry)) (now (buf .entry)) (λ s h l. rewinding s h l (Current d)) ⌝ }
 {
     let Received::Read(here) = receive(shape, header) else {
         return unreadable();
@@ -398,7 +398,7 @@ pub extern "C" fn arena_rewind_end(
 ) -> CAnswer
     ensures { λ r.
         ⌜ crossed r (now (header .exit)) (now (buf .entry))
-            ≡ crossing shape (now (header .entry)) (now (buf .entry)) (λ s h l. rewinding s h l (End x)) ⌝ }
+        ≡ crossing shape (now (header .entry)) (now (buf .entry)) (λ s h l. rewinding s h l (End x)) ⌝ }
 {
     let Received::Read(here) = receive(shape, header) else {
         return unreadable();
@@ -417,7 +417,7 @@ pub extern "C" fn arena_set_minimum_segment_size(
 ) -> CAnswer
     ensures { λ r.
         ⌜ crossed r (now (header .exit)) (now (buf .entry))
-            ≡ crossing shape (now (header .entry)) (now (buf .entry)) (λ s h l. settingMinimum s h l size) ⌝ }
+        ≡ crossing shape (now (header .entry)) (now (buf .entry)) (λ s h l. settingMinimum s h l size) ⌝ }
 {
     let Received::Read(here) = receive(shape, header) else {
         return unreadable();
@@ -435,7 +435,7 @@ pub extern "C" fn arena_increase_discarded(
 ) -> CAnswer
     ensures { λ r.
         ⌜ crossed r (now (header .exit)) (now (buf .entry))
-            ≡ crossing shape (now (header .entry)) (now (buf .entry)) (λ s h l. addingDiscarded s h l size) ⌝ }
+        ≡ crossing shape (now (header .entry)) (now (buf .entry)) (λ s h l. addingDiscarded s h l size) ⌝ }
 {
     let Received::Read(here) = receive(shape, header) else {
         return unreadable();

@@ -73,7 +73,11 @@ fn refused(number: u64) -> Desk {
         discarded: 0,
     };
     let slots = no_blocks();
-    Desk { shape, header, slots }
+    Desk {
+        shape,
+        header,
+        slots,
+    }
 }
 
 // A fresh arena; a good setup writes nothing.
@@ -83,7 +87,11 @@ pub fn open(settings: Settings, buf: &[u8]) -> Desk {
             let shape = arena.shape;
             let header = arena.header;
             let slots = no_blocks();
-            Desk { shape, header, slots }
+            Desk {
+                shape,
+                header,
+                slots,
+            }
         }
         Begun::UnknownFreelist => refused(2),
         Begun::BadSetup => refused(3),
@@ -121,7 +129,11 @@ pub fn call(desk: Desk, buf: &mut [u8], call: Call) -> Desk {
             slots[free] = Slot { held: true, block };
         }
     }
-    Desk { shape, header, slots }
+    Desk {
+        shape,
+        header,
+        slots,
+    }
 }
 
 // Gives the block of a slot back. It is held no more, unless the call is refused.
@@ -145,5 +157,9 @@ pub fn give(desk: Desk, buf: &mut [u8], slot: usize) -> Desk
     let answer = reply.answer;
     let held = trace::refused(answer);
     slots[slot] = Slot { held, block };
-    Desk { shape, header, slots }
+    Desk {
+        shape,
+        header,
+        slots,
+    }
 }

@@ -52,14 +52,14 @@ module _ {M : Type 1} (𝓤 : URA M) (H : Heap 𝓤) (A : Atoms 𝓤) (W : Given
     typed = ty;
     us = vptr b o ∷ sliceVal (b, o) n ∷ [];
     lends = λ C Λ E E′ bs ms at at′ Γ p rest. step (λ s. split ! $ split ! $ move ! (3 ∷ []) $ split ! $ split ! $ move ! (2 ∷ []) $ split ! $ split ! $
-      -- [room for the slice made anew; …; nothing; room for the pointer at 3; …; the slice at 5; …; the rest's cells; …]
-      assigns ! (addr ! (found ! at (fld ! refl (hop ! (look-in ! 5 (sub ! 0 refl (whole !))) (stop !))))) (found ! at′ (stop !)) (init ! 3 refl (tt, tt)) $
-      assigns ! (agg ! (and-then ! (load ! (found ! at′ (stop !)) (look ! 3 refl)) (and-then ! (load ! (found ! at (fld ! refl (stop !))) (look-in ! 5 (sub ! 1 refl (whole !)))) (no-more !)))) (found ! (next E m at′) (stop !)) (init ! 0 refl (tt, ty .0 .1)) $
-      join ! $ join ! $ move ! (1 ∷ 2 ∷ []) $ join ! $ join ! $ move ! (1 ∷ 2 ∷ []) $ join ! $ move ! (0 ∷ 2 ∷ []) $ join ! $ s);
+        -- [room for the slice made anew; …; nothing; room for the pointer at 3; …; the slice at 5; …; the rest's cells; …]
+        assigns ! (addr ! (found ! at (fld ! refl (hop ! (look-in ! 5 (sub ! 0 refl (whole !))) (stop !))))) (found ! at′ (stop !)) (init ! 3 refl (tt, tt)) $
+        assigns ! (agg ! (and-then ! (load ! (found ! at′ (stop !)) (look ! 3 refl)) (and-then ! (load ! (found ! at (fld ! refl (stop !))) (look-in ! 5 (sub ! 1 refl (whole !)))) (no-more !)))) (found ! (next E m at′) (stop !)) (init ! 0 refl (tt, ty .0 .1)) $
+        join ! $ join ! $ move ! (1 ∷ 2 ∷ []) $ join ! $ join ! $ move ! (1 ∷ 2 ∷ []) $ join ! $ move ! (0 ∷ 2 ∷ []) $ join ! $ s);
     reads = λ E E′ bs ms at at′ Γ.
-      let own : Item 𝓤 = ‵ (fat fullShare slice (bs .0) zero (sliceVal (b, o) n)) ⊛ ‵ (fdies slice (bs .0)) in
-      let pointer : Item 𝓤 = ‵ (fat fullShare (bytes erased) (ms .0) zero (vptr b o)) ⊛ ‵ (fdies (bytes erased) (ms .0)) in
-      reads-as ! (‵ (fat fullShare (sliceTy (bytes erased)) (ms .1 .0) zero (sliceVal (b, o) n)) ∷ ‵ (fdies (sliceTy (bytes erased)) (ms .1 .0)) ∷ ‵ ftrue ∷ pointer ∷ own ∷ held 𝓤 τs (bs .1) vs ∷ Γ)
-      (split ! $ move ! (2 ∷ []) $ split ! $ move ! (1 ∷ []) $ split ! $ split ! $ done !) (join ! $ join ! $ move ! (1 ∷ 0 ∷ []) $ join ! $ move ! (1 ∷ 2 ∷ []) $ join ! $ done !)
-      (and-then ! (load ! (found ! (next E m at′) (stop !)) (look ! 0 {q = fullShare} refl)) (reads-at ! (5 ∷ []) (reads-all ! τs (bs .1) vs 4 E′ (ty .1) (next E 3 at))));
+        let own : Item 𝓤 = ‵ (fat fullShare slice (bs .0) zero (sliceVal (b, o) n)) ⊛ ‵ (fdies slice (bs .0)) in
+        let pointer : Item 𝓤 = ‵ (fat fullShare (bytes erased) (ms .0) zero (vptr b o)) ⊛ ‵ (fdies (bytes erased) (ms .0)) in
+        reads-as ! (‵ (fat fullShare (sliceTy (bytes erased)) (ms .1 .0) zero (sliceVal (b, o) n)) ∷ ‵ (fdies (sliceTy (bytes erased)) (ms .1 .0)) ∷ ‵ ftrue ∷ pointer ∷ own ∷ held 𝓤 τs (bs .1) vs ∷ Γ)
+        (split ! $ move ! (2 ∷ []) $ split ! $ move ! (1 ∷ []) $ split ! $ split ! $ done !) (join ! $ join ! $ move ! (1 ∷ 0 ∷ []) $ join ! $ move ! (1 ∷ 2 ∷ []) $ join ! $ done !)
+        (and-then ! (load ! (found ! (next E m at′) (stop !)) (look ! 0 {q = fullShare} refl)) (reads-at ! (5 ∷ []) (reads-all ! τs (bs .1) vs 4 E′ (ty .1) (next E 3 at))));
   }

@@ -38,7 +38,14 @@ fn put_state(out: &mut [u8], at: usize, shape: Shape, header: Header, buf: &[u8]
 }
 
 // A call's answer, after the arrow.
-pub fn put_reply(out: &mut [u8], call: Call, answer: Answer, shape: Shape, header: Header, buf: &[u8]) -> usize
+pub fn put_reply(
+    out: &mut [u8],
+    call: Call,
+    answer: Answer,
+    shape: Shape,
+    header: Header,
+    buf: &[u8],
+) -> usize
     ensures { λ r. ⌜ r ≤ length (now (out .entry)) ⌝ }
 {
     let arrow = trace::put(out, 0, b" -> ");

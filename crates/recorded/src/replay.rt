@@ -90,13 +90,24 @@ fn ask(tally: Tally, arena: Arena, buf: &mut [u8], call: Call, theirs: &[u8]) ->
     let mut next = tally;
     next.calls = more(tally.calls);
     Run {
-        desk: Desk::Open(Arena { shape, header: after }),
+        desk: Desk::Open(Arena {
+            shape,
+            header: after,
+        }),
         tally: judge(next, &out[0..n], theirs),
     }
 }
 
 // Makes a caller's write and compares what the arena then holds.
-fn write(tally: Tally, arena: Arena, buf: &mut [u8], offset: u32, size: u32, byte: u8, theirs: &[u8]) -> Run {
+fn write(
+    tally: Tally,
+    arena: Arena,
+    buf: &mut [u8],
+    offset: u32,
+    size: u32,
+    byte: u8,
+    theirs: &[u8],
+) -> Run {
     trace::fill(buf, offset as usize, size as usize, byte);
     let shape = arena.shape;
     let header = arena.header;
@@ -119,7 +130,15 @@ fn answer(tally: Tally, arena: Arena, buf: &mut [u8], said: Line, theirs: &[u8])
     }
     match said {
         Line::Call(call) => ask(tally, arena, &mut buf[0..cap], call, theirs),
-        Line::Fill { offset, size, byte } => write(tally, arena, &mut buf[0..cap], offset, size, byte, theirs),
+        Line::Fill { offset, size, byte } => write(
+            tally,
+            arena,
+            &mut buf[0..cap],
+            offset,
+            size,
+            byte,
+            theirs,
+        ),
         _ => Run {
             desk: Desk::Open(arena),
             tally: differs(tally, b" -> not read"),

@@ -44,7 +44,11 @@ pub fn simplify(request: Request) -> Request
     match request {
         Request::Bytes(_) => request,
         Request::Typed { .. } => request,
-        Request::Aligned { size, align: _, extra } => {
+        Request::Aligned {
+            size,
+            align: _,
+            extra,
+        } => {
             if size == 0 {
                 return Request::Bytes(extra);
             }
@@ -111,7 +115,8 @@ pub fn need_of(request: Request) -> usize
     match request {
         Request::Bytes(n) => n as usize,
         Request::Typed { size, align } => size as usize + align as usize - 1,
-        Request::Aligned { size, align, extra } => size as usize + align as usize - 1 + extra as usize,
+        Request::Aligned { size, align, extra } => size as usize + align as usize - 1
+            + extra as usize,
     }
 }
 
@@ -122,8 +127,13 @@ pub fn asked_of(top: u32, request: Request) -> usize
 {
     match request {
         Request::Bytes(n) => n as usize,
-        Request::Typed { size, align } => words::align_offset(top as usize, align as usize) + size as usize,
-        Request::Aligned { size, align: _, extra } => size as usize + extra as usize,
+        Request::Typed { size, align } => words::align_offset(top as usize, align as usize)
+            + size as usize,
+        Request::Aligned {
+            size,
+            align: _,
+            extra,
+        } => size as usize + extra as usize,
     }
 }
 
@@ -145,7 +155,11 @@ pub fn list_block(p: usize, m: usize, request: Request) -> Block
             usable_offset: words::align_offset(p, align as usize) as u32,
             usable_size: size,
         },
-        Request::Aligned { size: _, align, extra: _ } => {
+        Request::Aligned {
+            size: _,
+            align,
+            extra: _,
+        } => {
             let at = words::align_offset(p, align as usize);
             Block {
                 memory_offset: p as u32,

@@ -40,7 +40,14 @@ fn take(shape: Shape, header: Header, buf: &mut [u8], request: Request) -> Reply
     match request {
         Request::Bytes(size) => arena::alloc_bytes(shape, header, buf, size),
         Request::Typed { size, align } => arena::alloc(shape, header, buf, size, align),
-        Request::Aligned { size, align, extra } => arena::alloc_aligned_bytes(shape, header, buf, size, align, extra),
+        Request::Aligned { size, align, extra } => arena::alloc_aligned_bytes(
+            shape,
+            header,
+            buf,
+            size,
+            align,
+            extra,
+        ),
     }
 }
 

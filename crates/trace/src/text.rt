@@ -71,8 +71,22 @@ pub fn put_pair(out: &mut [u8], at: usize, first: &[u8], m: u64, second: &[u8], 
 fn put_block(out: &mut [u8], at: usize, block: Block) -> usize
     ensures { λ r. ⌜ r ≤ length (now (out .entry)) ⌝ }
 {
-    let memory = put_pair(out, at, b" memory=", block.memory_offset as u64, b" length=", block.memory_size as u64);
-    put_pair(out, memory, b" at=", block.usable_offset as u64, b" usable=", block.usable_size as u64)
+    let memory = put_pair(
+        out,
+        at,
+        b" memory=",
+        block.memory_offset as u64,
+        b" length=",
+        block.memory_size as u64,
+    );
+    put_pair(
+        out,
+        memory,
+        b" at=",
+        block.usable_offset as u64,
+        b" usable=",
+        block.usable_size as u64,
+    )
 }
 
 fn put_slot(out: &mut [u8], at: usize, kept: Kept) -> usize
@@ -122,7 +136,14 @@ fn put_carrying(out: &mut [u8], at: usize, number: u64, first: u32, second: u32)
     ensures { λ r. ⌜ r ≤ length (now (out .entry)) ⌝ }
 {
     let said = put_refusal(out, at, number);
-    put_pair(out, said, b" first=", first as u64, b" second=", second as u64)
+    put_pair(
+        out,
+        said,
+        b" first=",
+        first as u64,
+        b" second=",
+        second as u64,
+    )
 }
 
 // An answer, without what stands after it.
@@ -141,7 +162,10 @@ pub fn put_answer(out: &mut [u8], at: usize, call: Call, answer: Answer, kept: K
         Answer::OutOfBounds { offset, allocated } => put_carrying(out, at, 6, offset, allocated),
         Answer::Overlap => put_refusal(out, at, 7),
         Answer::CutsFreeList => put_refusal(out, at, 8),
-        Answer::InsufficientSpace { requested, available } => put_carrying(out, at, 9, requested, available),
+        Answer::InsufficientSpace {
+            requested,
+            available,
+        } => put_carrying(out, at, 9, requested, available),
     }
 }
 
@@ -149,7 +173,14 @@ pub fn put_answer(out: &mut [u8], at: usize, call: Call, answer: Answer, kept: K
 pub fn put_counters(out: &mut [u8], at: usize, header: Header) -> usize
     ensures { λ r. ⌜ r ≤ length (now (out .entry)) ⌝ }
 {
-    put_pair(out, at, b" top=", header.allocated as u64, b" lost=", header.discarded as u64)
+    put_pair(
+        out,
+        at,
+        b" top=",
+        header.allocated as u64,
+        b" lost=",
+        header.discarded as u64,
+    )
 }
 
 // Whether the answer is one of document 01's refusals.
@@ -165,10 +196,16 @@ pub fn refused(answer: Answer) -> bool
         Answer::ReadOnly => true,
         Answer::Damaged => true,
         Answer::BadLayout => true,
-        Answer::OutOfBounds { offset: _, allocated: _ } => true,
+        Answer::OutOfBounds {
+            offset: _,
+            allocated: _,
+        } => true,
         Answer::Overlap => true,
         Answer::CutsFreeList => true,
-        Answer::InsufficientSpace { requested: _, available: _ } => true,
+        Answer::InsufficientSpace {
+            requested: _,
+            available: _,
+        } => true,
     }
 }
 

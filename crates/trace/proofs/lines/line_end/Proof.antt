@@ -17,7 +17,6 @@ loop-holds c = search needs
 shared-slice-read-if1 : tie.Need-shared-slice-read-if1 Inv-loop μ-loop
 shared-slice-read-if1 c = search needs
 
-
 returns : tie.Need-returns Inv-loop μ-loop
 returns c = search needs
 
