@@ -1,5 +1,6 @@
 -- The check of a list by computation says yes exactly for a sound list, and keeps exactly its segments.
 -- `kept` is joined to `Run` for any test, by `Steps` (each node passed the test, told those before); the test `mayFollow` is joined to `Good` without the walk.
+-- The walk by `mayCome`, without the test of the bytes, keeps a sound list whole too, and all that it keeps is in range and in order.
 -- That the check's bound of length / 16 nodes loses none is the counting law `few`. Assumes nothing.
 use mathlib.Core.Path.{_≡_, refl, ap, _∙_, subst}
 use mathlib.Core.Bool.{Bool, true, false, _&&_, not}
@@ -16,7 +17,8 @@ use Rattle.records.specs.declared.Order.{Order}
 use Rattle.records.specs.declared.Order.the-variants.{Optimistic, Pessimistic}
 use Rattle.records.proofs.Facts.{both}
 use Rattle.freelist.specs.Segs.{Seg, Run, All, Pairwise, Apart, InRange, EndsBy, Leads, Good, Listed, segAt, nextAt, endOf}
-use Rattle.freelist.specs.Check.{after, passed, kept, meets, inRange, follows, mayFollow, goodRun, soundb}
+use Rattle.freelist.specs.Check.{after, passed, kept, inRange, follows, mayFollow, goodRun, soundb}
+use Rattle.freelist.specs.Split.{mayCome, rangedRun}
 use Rattle.freelist.specs.Link.{sizes}
 use Rattle.freelist.proofs.Listing.{all-map, all-append, all-split, pairs-snoc, pairs-at}
 use Rattle.freelist.proofs.Meets.{apart-all, meets-none}
@@ -96,27 +98,19 @@ all-follows o [] t h = refl
 all-follows o (s ∷ []) t h = h .0
 all-follows o (s ∷ u ∷ us) t h = all-follows o (u ∷ us) t (h .1)
 
--- the answers of `mayFollow`, in the order of its tests
+-- the answers of `mayCome`, in the order of its tests
 module _ (start top : ℕ) (o : Order) (seen : List Seg) (t : Seg) where
-  pub may-no-range : inRange start top t ≡ false → mayFollow start top o seen t ≡ false
-  unfolding mayFollow
-  may-no-range a = rw a refl
+  pub come-no-range : inRange start top t ≡ false → mayCome start top o seen t ≡ false
+  unfolding mayCome
+  come-no-range a = rw a refl
 
-  pub may-no-order : inRange start top t ≡ true → follows o seen t ≡ false → mayFollow start top o seen t ≡ false
-  unfolding mayFollow
-  may-no-order a b = rw (a, b) refl
+  pub come-no-order : inRange start top t ≡ true → follows o seen t ≡ false → mayCome start top o seen t ≡ false
+  unfolding mayCome
+  come-no-order a b = rw (a, b) refl
 
-  pub may-no-room : inRange start top t ≡ true → follows o seen t ≡ true → meets seen (t .offset) (endOf t) ≡ true → mayFollow start top o seen t ≡ false
-  unfolding mayFollow
-  may-no-room a b c = rw (a, b, c) refl
-
-  pub may-yes : inRange start top t ≡ true → follows o seen t ≡ true → meets seen (t .offset) (endOf t) ≡ false → mayFollow start top o seen t ≡ true
-  unfolding mayFollow
-  may-yes a b c = rw (a, b, c) refl
-
-  pub may-ranged : mayFollow start top o seen t ≡ true → InRange start top t
-  unfolding mayFollow
-  may-ranged e = in-range start top t (both _ _ (both _ _ e .0) .0)
+  pub come-yes : inRange start top t ≡ true → follows o seen t ≡ true → mayCome start top o seen t ≡ true
+  unfolding mayCome
+  come-yes a b = rw (a, b) refl
 
 module _ (start top : ℕ) (o : Order) where
   good-nil : Good start top o []
@@ -153,6 +147,23 @@ module _ (start top : ℕ) (o : Order) where
   good-steps seen (s ∷ ss) g =
       (good-test seen s ss g, good-steps (seen ++ s ∷ []) ss (rw append-assoc g))
 
+  -- what `mayFollow` lets pass comes in range and in order
+  follow-comes : (seen ss : List Seg) → Steps (mayFollow start top o) seen ss → Steps (mayCome start top o) seen ss
+  unfolding mayFollow mayCome
+  follow-comes seen [] h = tt
+  follow-comes seen (s ∷ ss) h = (both _ _ (h .0) .0, follow-comes (seen ++ s ∷ []) ss (h .1))
+
+  comes-ranged : (seen ss : List Seg) → Steps (mayCome start top o) seen ss → All (InRange start top) ss
+  unfolding mayCome
+  comes-ranged seen [] h = tt
+  comes-ranged seen (s ∷ ss) h = (in-range start top s (both _ _ (h .0) .0), comes-ranged (seen ++ s ∷ []) ss (h .1))
+
+  comes-sorted : (seen ss : List Seg) → Pairwise (Leads o) seen → Steps (mayCome start top o) seen ss → Pairwise (Leads o) (seen ++ ss)
+  unfolding mayCome
+  comes-sorted seen [] g h = rw append-nil g
+  comes-sorted seen (s ∷ ss) g h =
+      rw append-assoc at (comes-sorted (seen ++ s ∷ []) ss (pairs-snoc (Leads o) seen s g (follows-all o seen s g (both (inRange start top s) (follows o seen s) (h .0) .1))) (h .1))
+
 module _ (l : List ℕ) (head start top : ℕ) (o : Order) where
   -- the longest good run: a run, and good
   pub good-is-run : Run (wordAt l) head (goodRun l head start top o) (after (wordAt l) (length (goodRun l head start top o)) head)
@@ -162,6 +173,23 @@ module _ (l : List ℕ) (head start top : ℕ) (o : Order) where
   pub good-good : Good start top o (goodRun l head start top o)
   unfolding goodRun
   good-good = steps-good start top o [] _ (good-nil start top o) (kept-is (wordAt l) (mayFollow start top o) (length l / 16) [] head .1)
+
+  -- the longest run in range and in order
+  pub ranged-is-run : Run (wordAt l) head (rangedRun l head start top o) (after (wordAt l) (length (rangedRun l head start top o)) head)
+  unfolding rangedRun
+  ranged-is-run = kept-is (wordAt l) (mayCome start top o) (length l / 16) [] head .0
+
+  pub ranged-ranged : All (InRange start top) (rangedRun l head start top o)
+  unfolding rangedRun
+  ranged-ranged =
+      comes-ranged start top o [] (kept (length l / 16) (wordAt l) (mayCome start top o) [] head)
+      (kept-is (wordAt l) (mayCome start top o) (length l / 16) [] head .1)
+
+  pub ranged-sorted : Pairwise (Leads o) (rangedRun l head start top o)
+  unfolding rangedRun
+  ranged-sorted =
+      comes-sorted start top o [] (kept (length l / 16) (wordAt l) (mayCome start top o) [] head) tt
+      (kept-is (wordAt l) (mayCome start top o) (length l / 16) [] head .1)
 
   -- where the check says yes, it is the list
   pub checked-listed : length l ≤ limit → 1 ≤ start → start ≤ top → top ≤ length l → soundb l head start top o ≡ true → Listed l head start top o (goodRun l head start top o)
@@ -187,6 +215,13 @@ module _ (l : List ℕ) (head start top : ℕ) (o : Order) where
     listed-run =
         kept-whole (wordAt l) (mayFollow start top o) (length l / 16) [] head segs listed-few (s .run)
         (good-steps start top o [] segs (s .good))
+
+    -- nor does the walk without the test of the bytes lose any
+    pub listed-ranged : rangedRun l head start top o ≡ segs
+    unfolding rangedRun
+    listed-ranged =
+        kept-whole (wordAt l) (mayCome start top o) (length l / 16) [] head segs listed-few (s .run)
+        (follow-comes start top o [] segs (good-steps start top o [] segs (s .good)))
 
     pub listed-checked : soundb l head start top o ≡ true
     unfolding soundb

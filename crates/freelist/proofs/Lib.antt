@@ -7,6 +7,9 @@ pub mod Words
 pub mod Meets
 pub mod Checks
 pub mod Walks
+pub mod Aparts
+pub mod Marks
+pub mod Claims
 pub mod Seeks
 pub mod Links
 pub mod Sounds

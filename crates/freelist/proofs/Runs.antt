@@ -1,6 +1,6 @@
 -- Laws of runs of nodes, over any reading `w` of words: they join and split, they are the nodes that a walk passes, and they look at their own words only.
 -- Assumes nothing.
-use mathlib.Core.Path.{_≡_, refl, sym, ap, _∙_, subst}
+use mathlib.Core.Path.{_≡_, refl, sym, ap, _∙_}
 use mathlib.Core.Bool.{Bool, true, false}
 use mathlib.Core.List.{List, [], _∷_, _++_}
 use Prim.Native.Nat.{ℕ, zero, suc, _+_, _-_, _≤_, _<_}
@@ -83,23 +83,10 @@ module _ (w : ℕ → ℕ) where
   last-follows o zero p t = refl
   last-follows o (suc n) p t = last-follows o n (nextAt w p) t
 
-  passed-follows : (o : Order) (n p : ℕ) (t : Seg) → 0 < n → follows o (passed w n p) t ≡ leads o (segAt w (after w (n - 1) p)) t
+  pub passed-follows : (o : Order) (n p : ℕ) (t : Seg) → 0 < n → follows o (passed w n p) t ≡ leads o (segAt w (after w (n - 1) p)) t
   passed-follows o n p t h =
       let e : n ≡ suc (n - 1) = omega arith in
       ap (λ (k : ℕ). follows o (passed w k p) t) e ∙ last-follows o (n - 1) p t
-
-  pub leads-passed : (o : Order) (n p prev q s t : ℕ) → 0 < n → prev ≡ after w (n - 1) p → s ≡ segAt w prev .size → t ≡ segAt w q .size
-      → leads o (record { offset = prev; size = s }) (record { offset = q; size = t }) ≡ follows o (passed w n p) (segAt w q)
-  leads-passed o n p prev q s t h e f g = rw (f, g, e) (sym (passed-follows o n p (segAt w q) h))
-
-  last-all : (P : Seg → Type 0) (n p : ℕ) → All P (passed w (suc n) p) → P (segAt w (after w n p))
-  last-all P zero p a = a .0
-  last-all P (suc n) p a = last-all P n (nextAt w p) (a .1)
-
-  pub all-last : (P : Seg → Type 0) (n p : ℕ) → 0 < n → All P (passed w n p) → P (segAt w (after w (n - 1) p))
-  all-last P n p h a =
-      let e : n ≡ suc (n - 1) = omega arith in
-      last-all P (n - 1) p (subst (λ (k : ℕ). All P (passed w k p)) e a)
 
 -- a run looks only at its own words
 pub run-agree : (w v : ℕ → ℕ) (p q : ℕ) (a : List Seg) → All (λ s. v (s .offset) ≡ w (s .offset)) a → Run w p a q → Run v p a q

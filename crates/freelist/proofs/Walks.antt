@@ -1,4 +1,4 @@
--- The turns of `good_run` as laws over plain values: `kept` stops at its limit, at the end mark and at a node that fails, and goes on at any other.
+-- The turns of `ranged_run` as laws over plain values: `kept` stops at its limit, at the end mark and at a node that fails, and goes on at any other.
 -- Assumes nothing.
 use mathlib.Core.Path.{_≡_, refl, sym, ap, _∙_}
 use mathlib.Core.Logic.{_≢_}
@@ -6,18 +6,19 @@ use mathlib.Core.Bool.{Bool, true, false, _&&_, not}
 use mathlib.Core.List.{List, [], _∷_, _++_, append-assoc, append-nil}
 use Prim.Native.Nat.{ℕ, suc, _+_, _-_, _/_, _≤_, _<_}
 use native.Mathlib.Numerals.{add-one}
+use native.Mathlib.Decide.{decLe}
 use native.Mathlib.Omega.{arith}
 use borrow.Author.Tests.{eq-eqb, ne-eqb}
 use lib.Dec.{eqb}
 use lib.ListN.{length}
 use Rattle.words.specs.Word.{wordAt, endMark}
 use Rattle.records.specs.Pick.{pick}
-use Rattle.freelist.specs.Segs.{Seg, All, EndsBy, segAt, nextAt}
-use Rattle.freelist.specs.Check.{after, passed, kept, mayFollow, goodRun, Walked}
+use Rattle.freelist.specs.Segs.{Seg, segAt, nextAt, leads}
+use Rattle.freelist.specs.Check.{after, passed, kept, inRange, follows, Walked}
+use Rattle.freelist.specs.Split.{mayCome, rangedRun}
 use Rattle.records.specs.declared.Order.{Order}
-use Rattle.freelist.proofs.Listing.{all-append}
-use Rattle.freelist.proofs.Runs.{passed-snoc, after-suc, length-passed}
-use Rattle.freelist.proofs.Checks.{may-ranged}
+use Rattle.freelist.proofs.Runs.{passed-snoc, after-suc, length-passed, passed-follows}
+use Rattle.freelist.proofs.Checks.{come-no-range, come-no-order, come-yes}
 
 module _ (w : ℕ → ℕ) (ok : List Seg → Seg → Bool) (seen : List Seg) (p : ℕ) where
   kept-pop : (n : ℕ) → 0 < n → kept n w ok seen p ≡ pick (not (eqb p endMark) && ok seen (segAt w p)) (segAt w p ∷ kept (n - 1) w ok (seen ++ segAt w p ∷ []) (nextAt w p)) []
@@ -39,48 +40,61 @@ module _ (w : ℕ → ℕ) (ok : List Seg → Seg → Bool) (seen : List Seg) (p
   kept-goes : (n : ℕ) → 0 < n → p ≢ endMark → ok seen (segAt w p) ≡ true → kept n w ok seen p ≡ segAt w p ∷ kept (n - 1) w ok (seen ++ segAt w p ∷ []) (nextAt w p)
   kept-goes n h e f = rw (kept-pop n h, ne-eqb p endMark e, f) refl
 
--- what holds after count nodes of a good run
-pub record Walking (l : List ℕ) (head start top : ℕ) (o : Order) (limit count prev p : ℕ) : Type 0 where
+-- what holds after count nodes of the run, the last of them at prev with the size last
+pub record Walking (l : List ℕ) (head start top : ℕ) (o : Order) (limit count prev last p : ℕ) : Type 0 where
   pub limited : limit ≡ length l / 16
   pub within : count ≤ limit
   pub stands : p ≡ after (wordAt l) count head
-  pub ends : All (EndsBy (length l)) (passed (wordAt l) count head)
-  pub latest : 0 < count → prev ≡ after (wordAt l) (count - 1) head
-  pub keeps : goodRun l head start top o ≡ passed (wordAt l) count head ++ kept (limit - count) (wordAt l) (mayFollow start top o) (passed (wordAt l) count head) p
+  pub latest : 0 < count → _≡_ {A = Seg} (record { offset = prev; size = last }) (segAt (wordAt l) (after (wordAt l) (count - 1) head))
+  pub keeps : rangedRun l head start top o ≡ passed (wordAt l) count head ++ kept (limit - count) (wordAt l) (mayCome start top o) (passed (wordAt l) count head) p
 
 module _ (l : List ℕ) (head start top : ℕ) (o : Order) where
-  pub walk-begins : Walking l head start top o (length l / 16) 0 head head
-  unfolding goodRun
+  pub walk-begins : Walking l head start top o (length l / 16) 0 head 0 head
+  unfolding rangedRun
   walk-begins =
       let e : length l / 16 - 0 ≡ length l / 16 = omega arith in
-      record { limited = refl; within = omega arith; stands = refl; ends = tt; latest = λ h. absurd (omega arith); keeps = rw e refl }
+      record { limited = refl; within = omega arith; stands = refl; latest = λ h. absurd (omega arith); keeps = rw e refl }
 
-  module _ (limit count prev p : ℕ) (k : Walking l head start top o limit count prev p) where
+  module _ (limit count prev last p : ℕ) (k : Walking l head start top o limit count prev last p) where
     -- the run ends where nothing more is kept
-    ended : kept (limit - count) (wordAt l) (mayFollow start top o) (passed (wordAt l) count head) p ≡ [] → Walked l head (goodRun l head start top o) count p
+    ended : kept (limit - count) (wordAt l) (mayCome start top o) (passed (wordAt l) count head) p ≡ [] → Walked l head (rangedRun l head start top o) count p
     ended e = record { counted = sym (ap length (k .keeps) ∙ rw (e, append-nil) (length-passed (wordAt l) count head)); stops = k .stands }
 
-    pub walk-limit : limit ≤ count → Walked l head (goodRun l head start top o) count p
+    pub walk-limit : limit ≤ count → Walked l head (rangedRun l head start top o) count p
     walk-limit h = ended (kept-limit _ _ _ _ _ (omega arith))
 
-    pub walk-end : count < limit → p ≡ endMark → Walked l head (goodRun l head start top o) count p
+    pub walk-end : count < limit → p ≡ endMark → Walked l head (rangedRun l head start top o) count p
     walk-end h e = ended (kept-end _ _ _ _ _ (omega arith) e)
 
-    pub walk-fails : count < limit → p ≢ endMark → mayFollow start top o (passed (wordAt l) count head) (segAt (wordAt l) p) ≡ false → Walked l head (goodRun l head start top o) count p
-    walk-fails h e f = ended (kept-fails _ _ _ _ _ (omega arith) e f)
+    pub walk-no-range : count < limit → p ≢ endMark → inRange start top (segAt (wordAt l) p) ≡ false → Walked l head (rangedRun l head start top o) count p
+    walk-no-range h e f = ended (kept-fails _ _ _ _ _ (omega arith) e (come-no-range _ _ _ _ _ f))
 
-    pub walk-goes : top ≤ length l → count < limit → p ≢ endMark → mayFollow start top o (passed (wordAt l) count head) (segAt (wordAt l) p) ≡ true
-        → Walking l head start top o limit (count + 1) p (nextAt (wordAt l) p)
-    walk-goes t h e f =
-        let s : passed (wordAt l) (count + 1) head ≡ passed (wordAt l) count head ++ segAt (wordAt l) p ∷ [] = rw (add-one, passed-snoc, ← k .stands) refl in
-        let a : after (wordAt l) (count + 1) head ≡ nextAt (wordAt l) p = rw (add-one, after-suc, ← k .stands) refl in
-        let m : count + 1 - 1 ≡ count = omega arith in
-        let n : limit - (count + 1) ≡ limit - count - 1 = omega arith in
-        record {
-          limited = k .limited;
-          within = omega arith;
-          stands = sym a;
-          ends = rw s (all-append (EndsBy (length l)) (passed (wordAt l) count head) (segAt (wordAt l) p ∷ []) (k .ends) (omega (arith, may-ranged start top o _ _ f .below), tt));
-          latest = λ h. rw m (k .stands);
-          keeps = k .keeps ∙ rw (s, append-assoc, n, kept-goes (wordAt l) (mayFollow start top o) (passed (wordAt l) count head) p (limit - count) (omega arith) e f) refl;
-        }
+    -- what the order says of a node at p, by the last node
+    module _ (size : ℕ) (sized : size ≡ segAt (wordAt l) p .size) (r : Bool) (first : count ≡ 0 → r ≡ true) (later : 0 < count → r ≡ leads o (record { offset = prev; size = last }) (record { offset = p; size = size })) where
+      order : follows o (passed (wordAt l) count head) (segAt (wordAt l) p) ≡ r
+      order = go (decLe 1 count)
+        where
+          go : Dec (1 ≤ count) → follows o (passed (wordAt l) count head) (segAt (wordAt l) p) ≡ r
+          go (yes h) =
+              passed-follows (wordAt l) o count head (segAt (wordAt l) p) h
+              ∙ sym (later h ∙ ap (λ (t : Seg). leads o t (record { offset = p; size = size })) (k .latest h) ∙ ap (λ (n : ℕ). leads o (segAt (wordAt l) (after (wordAt l) (count - 1) head)) (record { offset = p; size = n })) sized)
+          go (no h) = let e : count ≡ 0 = omega arith in rw e (sym (first e))
+
+      pub walk-no-order : count < limit → p ≢ endMark → inRange start top (segAt (wordAt l) p) ≡ true → r ≡ false → Walked l head (rangedRun l head start top o) count p
+      walk-no-order h e f g = ended (kept-fails _ _ _ _ _ (omega arith) e (come-no-order _ _ _ _ _ f (order ∙ g)))
+
+      pub walk-goes : count < limit → p ≢ endMark → inRange start top (segAt (wordAt l) p) ≡ true → r ≡ true
+          → Walking l head start top o limit (count + 1) p size (nextAt (wordAt l) p)
+      walk-goes h e f g =
+          let s : passed (wordAt l) (count + 1) head ≡ passed (wordAt l) count head ++ segAt (wordAt l) p ∷ [] = rw (add-one, passed-snoc, ← k .stands) refl in
+          let a : after (wordAt l) (count + 1) head ≡ nextAt (wordAt l) p = rw (add-one, after-suc, ← k .stands) refl in
+          let m : count + 1 - 1 ≡ count = omega arith in
+          let n : limit - (count + 1) ≡ limit - count - 1 = omega arith in
+          let y : mayCome start top o (passed (wordAt l) count head) (segAt (wordAt l) p) ≡ true = come-yes _ _ _ _ _ f (order ∙ g) in
+          record {
+            limited = k .limited;
+            within = omega arith;
+            stands = sym a;
+            latest = λ h. rw (m, sized, ← k .stands) refl;
+            keeps = k .keeps ∙ rw (s, append-assoc, n, kept-goes (wordAt l) (mayCome start top o) (passed (wordAt l) count head) p (limit - count) (omega arith) e y) refl;
+          }

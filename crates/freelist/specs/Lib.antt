@@ -4,3 +4,5 @@ pub mod Place
 pub mod Check
 pub mod Link
 pub mod Sound
+pub mod Split
+pub mod Marks

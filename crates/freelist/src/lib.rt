@@ -7,14 +7,17 @@ use records::Order;
 use records::Shape;
 ghost use mathlib.Core.Path.{_≡_};
 ghost use mathlib.Core.Logic.{_≢_};
+ghost use mathlib.Core.Bool.{true};
 ghost use Prim.Native.Nat.{_+_, _-_, _≤_, _<_};
-ghost use lib.ListN.{length};
+ghost use lib.ListN.{length, replicate};
 ghost use Rattle.words.specs.Word.{wordAt, endMark};
-ghost use Rattle.freelist.specs.Segs.{leads, segAt, All, EndsBy, Run};
-ghost use Rattle.freelist.specs.Check.{after, passed, inRange, shares, meets, anyAbove, follows, mayFollow, goodRun, Walked};
+ghost use Rattle.freelist.specs.Segs.{leads, segAt, All, EndsBy, InRange, Run};
+ghost use Rattle.freelist.specs.Check.{after, passed, inRange, shares, meets, anyAbove, Walked};
 ghost use Rattle.freelist.specs.Place.{any};
 ghost use Rattle.freelist.specs.Link.{linkBytes, linkHead, sizes, passes, Stands, Spotted, Inserted, Removed};
-ghost use Rattle.freelist.specs.Sound.{freeFrom, sound, surveyed};
+ghost use Rattle.freelist.specs.Sound.{sound, surveyed};
+ghost use Rattle.freelist.specs.Split.{rangedRun, walkFrom, apartb};
+ghost use Rattle.freelist.specs.Marks.{window, markOf, noneSet, claims, claimsAll};
 
 // The end mark: where a list ends, and what stands before its first node.
 const END_MARK: usize = 4294967295;
@@ -24,6 +27,13 @@ const HALF: u64 = 4294967296;
 
 // The bytes of a node before its data.
 const NODE_SIZE: usize = 8;
+
+// The bytes of a cell, the cells that have a mark at a time, and the bytes of these.
+const CELL: usize = 8;
+
+const WINDOW: usize = 16384;
+
+const SPAN: usize = 131072;
 
 // A test of a node: may this segment stand before it, has it room for so many bytes, has it a byte from `from` up to
 // `to`, does it end above this offset.
@@ -158,69 +168,43 @@ fn node_ok(buf: &[u8], p: usize, start: usize, top: usize) -> bool
     true
 }
 
-// Whether the node at p may follow the last of the first `count` nodes from `head`, which stands at `prev`.
-fn follows_last(buf: &[u8], head: usize, count: usize, prev: usize, p: usize, order: Order) -> bool
-    requires { ⌜ All (EndsBy (length (now buf))) (passed (wordAt (now buf)) count head) ⌝ }
-    requires { ⌜ (0 < count → prev ≡ after (wordAt (now buf)) (count - 1) head) ⌝ }
-    requires { ⌜ p + 8 ≤ length (now buf) ⌝ }
-    ensures { λ r. ⌜ r ≡ follows order (passed (wordAt (now (buf .entry))) count head) (segAt (wordAt (now (buf .entry))) p) ⌝ }
+// Whether a node at p of this size may follow the last of `count` nodes, which stands at `prev` and has the size `last`.
+fn follows_last(order: Order, count: usize, prev: usize, last: usize, p: usize, size: usize) -> bool
+    ensures { λ r. ⌜ (count ≡ 0 → r ≡ true) ⌝ }
+    ensures { λ r. ⌜ (0 < count → r ≡ leads order (record { offset = prev; size = last }) (record { offset = p; size = size })) ⌝ }
 {
     if count == 0 {
         return true;
     }
-    let last = words::node_at(buf, prev);
-    let node = words::node_at(buf, p);
-    may_lead(order, prev, last.size as usize, p, node.size as usize)
+    may_lead(order, prev, last, p, size)
 }
 
-// Whether the node at p may be the next after the first `count` nodes from `head`.
-fn may_follow(
-    buf: &[u8],
-    head: usize,
-    count: usize,
-    prev: usize,
-    p: usize,
-    start: usize,
-    top: usize,
-    order: Order,
-) -> bool
+// The longest run of nodes from `head` whose places and order are sound. No sound list has more nodes than a sixteenth
+// of the buffer's length, so the walk ends there, and it ends on any bytes.
+fn ranged_run(buf: &[u8], head: usize, start: usize, top: usize, order: Order) -> Walk
     requires { ⌜ top ≤ length (now buf) ⌝ }
-    requires { ⌜ All (EndsBy (length (now buf))) (passed (wordAt (now buf)) count head) ⌝ }
-    requires { ⌜ (0 < count → prev ≡ after (wordAt (now buf)) (count - 1) head) ⌝ }
-    ensures { λ r. ⌜ r ≡ mayFollow start top order (passed (wordAt (now (buf .entry))) count head) (segAt (wordAt (now (buf .entry))) p) ⌝ }
-{
-    if !node_ok(buf, p, start, top) {
-        return false;
-    }
-    if !follows_last(buf, head, count, prev, p, order) {
-        return false;
-    }
-    let end = p + NODE_SIZE + words::node_at(buf, p).size as usize;
-    if any_meets(buf, head, count, p, end) {
-        return false;
-    }
-    true
-}
-
-// The longest run of nodes from `head` that would be sound by itself. No sound list has more nodes than a sixteenth of
-// the buffer's length, so the walk ends there, and it ends on any bytes.
-fn good_run(buf: &[u8], head: usize, start: usize, top: usize, order: Order) -> Walk
-    requires { ⌜ top ≤ length (now buf) ⌝ }
-    ensures { λ r. ⌜ Walked (now (buf .entry)) head (goodRun (now (buf .entry)) head start top order) (r .count) (r .stop) ⌝ }
+    ensures { λ r. ⌜ Walked (now (buf .entry)) head (rangedRun (now (buf .entry)) head start top order) (r .count) (r .stop) ⌝ }
 {
     let limit = buf.len() / 16;
     let mut count = 0;
     let mut prev = head;
+    let mut last = 0;
     let mut p = head;
     while count < limit {
         if p == END_MARK {
             return Walk { count, stop: p };
         }
-        if !may_follow(buf, head, count, prev, p, start, top, order) {
+        if !node_ok(buf, p, start, top) {
+            return Walk { count, stop: p };
+        }
+        let node = words::node_at(buf, p);
+        let size = node.size as usize;
+        if !follows_last(order, count, prev, last, p, size) {
             return Walk { count, stop: p };
         }
         prev = p;
-        p = words::node_at(buf, p).next as usize;
+        last = size;
+        p = node.next as usize;
         count += 1;
     }
     Walk { count, stop: p }
@@ -229,15 +213,128 @@ fn good_run(buf: &[u8], head: usize, start: usize, top: usize, order: Order) -> 
 // The walk by a policy: None has no list to follow.
 fn free_run(buf: &[u8], head: usize, start: usize, top: usize, policy: Freelist) -> Walk
     requires { ⌜ top ≤ length (now buf) ⌝ }
-    ensures { λ r. ⌜ Walked (now (buf .entry)) head (freeFrom policy start top (now (buf .entry)) head) (r .count) (r .stop) ⌝ }
+    ensures { λ r. ⌜ Walked (now (buf .entry)) head (walkFrom policy start top (now (buf .entry)) head) (r .count) (r .stop) ⌝ }
 {
     match policy {
         Freelist::None => Walk {
             count: 0,
             stop: head,
         },
-        Freelist::Ordered(order) => good_run(buf, head, start, top, order),
+        Freelist::Ordered(order) => ranged_run(buf, head, start, top, order),
     }
+}
+
+// Whether no two of the first `count` nodes from `head` share a byte, pair by pair.
+fn apart_pairs(buf: &[u8], head: usize, count: usize) -> bool
+    requires { ⌜ All (EndsBy (length (now buf))) (passed (wordAt (now buf)) count head) ⌝ }
+    ensures { λ r. ⌜ r ≡ apartb (passed (wordAt (now (buf .entry))) count head) ⌝ }
+{
+    let mut p = head;
+    let mut left = count;
+    while 0 < left {
+        let node = words::node_at(buf, p);
+        let end = p + NODE_SIZE + node.size as usize;
+        let next = node.next as usize;
+        if any_meets(buf, next, left - 1, p, end) {
+            return false;
+        }
+        p = next;
+        left -= 1;
+    }
+    true
+}
+
+// Where the mark of a cell stands among those from the cell `base` on: the first or past the last for a cell before or
+// after them.
+fn mark_of(base: usize, cell: usize) -> usize
+    ensures { λ r. ⌜ r ≡ markOf base cell ⌝ }
+{
+    if cell < base {
+        return 0;
+    }
+    if WINDOW < cell - base {
+        return WINDOW;
+    }
+    cell - base
+}
+
+// Sets every mark: whether none was set. It doesn't stop at the first, so that the compiler takes many in one step.
+fn claim(marks: &mut [u8]) -> bool
+    ensures { λ r. ⌜ r ≡ noneSet (now (marks .entry)) ⌝ }
+    ensures { λ r. ⌜ now (marks .exit) ≡ replicate (length (now (marks .entry))) 1 ⌝ }
+{
+    let mut seen: u8 = 0;
+    let mut i: usize = 0;
+    while i < marks.len() {
+        seen = seen | marks[i];
+        marks[i] = 1;
+        i += 1;
+    }
+    seen == 0
+}
+
+// Whether each of the first `count` nodes from `head` finds the marks of its cells unset: it sets them then.
+fn claim_run(buf: &[u8], head: usize, count: usize, base: usize, marks: &mut [u8]) -> bool
+    requires { ⌜ All (EndsBy (length (now buf))) (passed (wordAt (now buf)) count head) ⌝ }
+    requires { ⌜ length (now marks) ≡ window ⌝ }
+    ensures { λ r. ⌜ r ≡ claims base (now (marks .entry)) (passed (wordAt (now (buf .entry))) count head) ⌝ }
+{
+    let mut p = head;
+    let mut left = count;
+    while 0 < left {
+        let node = words::node_at(buf, p);
+        let end = p + NODE_SIZE + node.size as usize;
+        let a = mark_of(base, p / CELL);
+        let b = mark_of(base, (end + 7) / CELL);
+        let free = claim(&mut marks[a..b]);
+        if !free {
+            return false;
+        }
+        p = node.next as usize;
+        left -= 1;
+    }
+    true
+}
+
+// The same with new marks, all of them unset.
+fn window_clear(buf: &[u8], head: usize, count: usize, base: usize) -> bool
+    requires { ⌜ All (EndsBy (length (now buf))) (passed (wordAt (now buf)) count head) ⌝ }
+    ensures { λ r. ⌜ r ≡ claims base (replicate window 0) (passed (wordAt (now (buf .entry))) count head) ⌝ }
+{
+    let mut marks: [u8; 16384] = [0; 16384];
+    claim_run(buf, head, count, base, &mut marks)
+}
+
+// Whether no two of the first `count` nodes from `head` share a byte, by marks, window after window.
+fn apart_marks(buf: &[u8], head: usize, count: usize, windows: usize) -> bool
+    requires { ⌜ All (EndsBy (length (now buf))) (passed (wordAt (now buf)) count head) ⌝ }
+    requires { ⌜ windows ≤ 281474976710656 ⌝ }
+    ensures { λ r. ⌜ r ≡ claimsAll windows 0 (passed (wordAt (now (buf .entry))) count head) ⌝ }
+{
+    let mut base = 0;
+    let mut left = windows;
+    while 0 < left {
+        if !window_clear(buf, head, count, base) {
+            return false;
+        }
+        base += WINDOW;
+        left -= 1;
+    }
+    true
+}
+
+// Whether no two of the first `count` nodes from `head` share a byte: the nodes are multiples of 8 and end at or below
+// `top`. Pair by pair where they are few for the room that they lie in, else by marks.
+fn apart_run(buf: &[u8], head: usize, count: usize, top: usize) -> bool
+    requires { ⌜ top ≤ length (now buf) ⌝ }
+    requires { ⌜ All (InRange 0 top) (passed (wordAt (now buf)) count head) ⌝ }
+    ensures { λ r. ⌜ r ≡ apartb (passed (wordAt (now (buf .entry))) count head) ⌝ }
+{
+    let windows = (top + (SPAN - 1)) / SPAN;
+    if count / 8 < windows + 2 {
+        return apart_pairs(buf, head, count);
+    }
+    apart_marks(buf, head, count, windows)
 }
 
 // The soundness check of any header over any bytes, with the number of the free segments.
@@ -252,14 +349,13 @@ pub fn survey(shape: Shape, header: Header, buf: &[u8]) -> Finding
         return Finding::Unsound;
     }
     let policy = shape.freelist;
-    let run = free_run(
-        buf,
-        (sentinel % HALF) as usize,
-        shape.data_offset as usize,
-        header.allocated as usize,
-        policy,
-    );
+    let head = (sentinel % HALF) as usize;
+    let top = header.allocated as usize;
+    let run = free_run(buf, head, shape.data_offset as usize, top, policy);
     if run.stop != END_MARK {
+        return Finding::Unsound;
+    }
+    if !apart_run(buf, head, run.count, top) {
         return Finding::Unsound;
     }
     Finding::Sound(run.count)

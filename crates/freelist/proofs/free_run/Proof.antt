@@ -10,15 +10,15 @@ enum-told c = search needs
 enum-known-policy : tie.Need-enum-known-policy
 enum-known-policy c = search needs
 
-good-run-requires : tie.Need-good-run-requires
-good-run-requires c κs = search needs
+ranged-run-requires : tie.Need-ranged-run-requires
+ranged-run-requires c κs = search needs
 
 returns : tie.Need-returns
 returns c = search needs
 
 returns-2 : tie.Need-returns-2
-returns-2 c = rw (c .before .before .policy .given .1) (c .good-run .ensures)
+returns-2 c = rw (c .before .before .policy .given .1) (c .ranged-run .ensures)
 
 pub free-run-spec : {M : Type 1} → statement M
 free-run-spec =
-    tie.close (tie.spec enum-told enum-known-policy good-run-requires returns returns-2)
+    tie.close (tie.spec enum-told enum-known-policy ranged-run-requires returns returns-2)

@@ -9,7 +9,7 @@ use borrow.Author.Tests.{not-true, not-false}
 use lib.ListN.{length}
 use Rattle.records.specs.Head.{headSound}
 use Rattle.records.proofs.Facts.{head-facts}
-use Rattle.freelist.proofs.Surveys.{survey-head, survey-mark, survey-open, survey-closed}
+use Rattle.freelist.proofs.Surveys.{walked-ranged, survey-head, survey-mark, survey-open, survey-shared, survey-closed}
 use Rattle.freelist.proofs.survey.Statement.{statement}
 use Rattle.freelist.proofs.survey.Tie as tie
 
@@ -26,11 +26,11 @@ returns c = sym (survey-head _ _ _ (sym (c .before .head-sound .ensures) ∙ not
 returns-2 : tie.Need-returns-2
 returns-2 c = sym (survey-mark _ _ _ (headed (c .before)) (c .if2 .taken))
 
+cast-top : tie.Need-cast-top
+cast-top c = search needs
+
 cast-free-run : tie.Need-cast-free-run
 cast-free-run c = search needs
-
-cast-free-run-2 : tie.Need-cast-free-run-2
-cast-free-run-2 c = search needs
 
 free-run-requires : tie.Need-free-run-requires
 free-run-requires c κs = omega (arith, head-facts _ _ _ (headed (c .before .before .before)))
@@ -40,10 +40,23 @@ returns-3 c =
     let m = c .before .before .before .before .before in
     sym (survey-open _ _ _ (headed (m .before)) (m .if2 .left) _ _ (c .before .before .free-run .ensures) (c .if3 .taken))
 
+apart-run-requires : tie.Need-apart-run-requires
+apart-run-requires c κs =
+    let e = c .before .before .before .before .before .before in
+    let s = e .before .before .before .args .shape in
+    (omega (arith, head-facts _ _ _ (headed e)), walked-ranged _ _ (s .«data_offset») _ _ _ (s .freelist) (c .before .before .free-run .ensures))
+
 returns-4 : tie.Need-returns-4
 returns-4 c =
-    let m = c .before .before .before .before .before in
-    sym (survey-closed _ _ _ (headed (m .before)) (m .if2 .left) _ _ (c .before .before .free-run .ensures) (c .if3 .left))
+    let e = c .before .before in
+    let m = e .before .before .before .before .before in
+    sym (survey-shared _ _ _ (headed (m .before)) (m .if2 .left) _ _ (e .before .before .free-run .ensures) (sym (c .before .apart-run .ensures) ∙ not-true _ (c .if4 .taken)))
+
+returns-5 : tie.Need-returns-5
+returns-5 c =
+    let e = c .before .before in
+    let m = e .before .before .before .before .before in
+    sym (survey-closed _ _ _ (headed (m .before)) (m .if2 .left) _ _ (e .before .before .free-run .ensures) (e .if3 .left) (sym (c .before .apart-run .ensures) ∙ not-false _ (c .if4 .left)))
 
 pub survey-spec : {M : Type 1} → statement M
 survey-spec =
@@ -52,8 +65,10 @@ survey-spec =
     head-sound-requires
     returns
     returns-2
+    cast-top
     cast-free-run
-    cast-free-run-2
     free-run-requires
     returns-3
-    returns-4)
+    apart-run-requires
+    returns-4
+    returns-5)
