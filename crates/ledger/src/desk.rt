@@ -1,5 +1,5 @@
-// An arena with the blocks that are held of it, by value, and calls that each write a line. A rewind leaves the table as it
-// is: here it is the last call on its arena.
+// An arena with a table of the blocks that are held, by value, and calls on it that each write a line. A rewind leaves
+// the table as it is: here it is the last call on its arena.
 use libc::STDOUT_FILENO;
 use records::Answer;
 use records::Begun;

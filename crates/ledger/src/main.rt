@@ -1,6 +1,6 @@
-// Makes the calls of document 01's ledger on the proved arena, and writes a line for each answer in the keys of document 02,
-// Req 01. A line before each group says which line of the ledger it is. Arenas are values: what S leaves is made once for
-// each policy, and each of the calls that the ledger makes next is made on a copy of it.
+// Makes the calls of document 01's ledger on the proved arena, and writes a line for each answer in the keys of document
+// 02, Req 01. A line before each group says which line of the ledger it is. Arenas are values: what S leaves is made once
+// for each policy, and each of the calls that the ledger makes next is made on a copy of it.
 mod desk;
 
 use desk::Desk;

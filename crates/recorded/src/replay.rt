@@ -130,15 +130,9 @@ fn answer(tally: Tally, arena: Arena, buf: &mut [u8], said: Line, theirs: &[u8])
     }
     match said {
         Line::Call(call) => ask(tally, arena, &mut buf[0..cap], call, theirs),
-        Line::Fill { offset, size, byte } => write(
-            tally,
-            arena,
-            &mut buf[0..cap],
-            offset,
-            size,
-            byte,
-            theirs,
-        ),
+        Line::Fill { offset, size, byte } => {
+            write(tally, arena, &mut buf[0..cap], offset, size, byte, theirs)
+        }
         _ => Run {
             desk: Desk::Open(arena),
             tally: differs(tally, b" -> not read"),
@@ -146,17 +140,24 @@ fn answer(tally: Tally, arena: Arena, buf: &mut [u8], said: Line, theirs: &[u8])
     }
 }
 
+// One line. A setup has no answer.
 fn step(run: Run, line: &[u8], buf: &mut [u8]) -> Run {
+    let desk = run.desk;
     let mut tally = run.tally;
     tally.line = more(tally.line);
     let cut = arrow(line);
     let said = trace::read_line(&line[0..cut]);
+    if let Line::Other = said {
+        return Run {
+            desk,
+            tally: differs(tally, b" -> not read"),
+        };
+    }
     if let Line::Setup { cap, settings } = said {
         if cut == line.len() {
             return set_up(tally, cap, settings, buf);
         }
     }
-    let desk = run.desk;
     let Desk::Open(arena) = desk else {
         return closed(tally, b" -> no arena");
     };

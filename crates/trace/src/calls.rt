@@ -20,6 +20,18 @@ pub enum Call {
     Lost(u32),
 }
 
+fn take(shape: Shape, header: Header, buf: &mut [u8], request: Request) -> Reply
+    ensures { λ r. ⌜ outcome r (now (buf .exit)) ≡ taking shape header (now (buf .entry)) request ⌝ }
+{
+    match request {
+        Request::Bytes(size) => arena::alloc_bytes(shape, header, buf, size),
+        Request::Typed { size, align } => arena::alloc(shape, header, buf, size, align),
+        Request::Aligned { size, align, extra } => {
+            arena::alloc_aligned_bytes(shape, header, buf, size, align, extra)
+        }
+    }
+}
+
 // Makes the call on the arena of this shape and header over buf.
 pub fn make(shape: Shape, header: Header, buf: &mut [u8], call: Call) -> Reply
     ensures { λ r. ⌜ outcome r (now (buf .exit)) ≡ made shape header (now (buf .entry)) call ⌝ }
@@ -34,20 +46,13 @@ pub fn make(shape: Shape, header: Header, buf: &mut [u8], call: Call) -> Reply
     }
 }
 
-fn take(shape: Shape, header: Header, buf: &mut [u8], request: Request) -> Reply
-    ensures { λ r. ⌜ outcome r (now (buf .exit)) ≡ taking shape header (now (buf .entry)) request ⌝ }
+fn fill_all(part: &mut [u8], byte: u8)
+    ensures { λ _. ⌜ now (part .exit) ≡ replicate (length (now (part .entry))) byte ⌝ }
 {
-    match request {
-        Request::Bytes(size) => arena::alloc_bytes(shape, header, buf, size),
-        Request::Typed { size, align } => arena::alloc(shape, header, buf, size, align),
-        Request::Aligned { size, align, extra } => arena::alloc_aligned_bytes(
-            shape,
-            header,
-            buf,
-            size,
-            align,
-            extra,
-        ),
+    let mut i: usize = 0;
+    while i < part.len() {
+        part[i] = byte;
+        i += 1;
     }
 }
 
@@ -62,14 +67,4 @@ pub fn fill(buf: &mut [u8], offset: usize, n: usize, byte: u8)
         return;
     }
     fill_all(&mut buf[offset..offset + n], byte);
-}
-
-fn fill_all(part: &mut [u8], byte: u8)
-    ensures { λ _. ⌜ now (part .exit) ≡ replicate (length (now (part .entry))) byte ⌝ }
-{
-    let mut i: usize = 0;
-    while i < part.len() {
-        part[i] = byte;
-        i += 1;
-    }
 }

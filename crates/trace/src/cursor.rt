@@ -5,6 +5,9 @@ ghost use mathlib.Core.Bool.{false};
 ghost use lib.ListN.{length};
 ghost use Rattle.trace.specs.Numeral.{Says, Counted};
 
+// A number up to here can take one digit more in a u64.
+const ROOM: u64 = 1000000000000000000;
+
 // How far a line is read, and the number read last. What is missing makes a cursor bad, and it stays so.
 pub struct Cursor {
     pub at: usize,
@@ -12,6 +15,13 @@ pub struct Cursor {
     pub value: u64,
 }
 
+// What digits say, if it is a number.
+enum Value {
+    Is(u64),
+    Unclear,
+}
+
+// Nothing more is read.
 fn bad() -> Cursor
     ensures { λ r. ⌜ (r .good ≡ false) × (r .value ≡ 0) ⌝ }
 {
@@ -20,12 +30,6 @@ fn bad() -> Cursor
         good: false,
         value: 0,
     }
-}
-
-// What digits say.
-enum Value {
-    Is(u64),
-    Unclear,
 }
 
 // Past a word that has to stand here.
@@ -51,6 +55,23 @@ pub fn word(text: &[u8], c: Cursor, expected: &[u8]) -> Cursor {
     }
 }
 
+// The cursor after a line's first word.
+pub fn begin(text: &[u8], expected: &[u8]) -> Cursor {
+    let start = Cursor {
+        at: 0,
+        good: true,
+        value: 0,
+    };
+    word(text, start, expected)
+}
+
+fn is_digit(b: u8) -> bool {
+    if b < b'0' {
+        return false;
+    }
+    b <= b'9'
+}
+
 // The end of the digits that start at `at`.
 fn digits_end(text: &[u8], at: usize) -> usize
     requires { ⌜ at ≤ length (now text) ⌝ }
@@ -66,13 +87,6 @@ fn digits_end(text: &[u8], at: usize) -> usize
     i
 }
 
-fn is_digit(b: u8) -> bool {
-    if b < 48 {
-        return false;
-    }
-    b < 58
-}
-
 // The number that digits say, zeros in front or not; none where it would pass 10^19 + 9.
 fn sum_of(digits: &[u8]) -> Value
     ensures { λ r. ⌜ Says (now (digits .entry)) r ⌝ }
@@ -81,16 +95,16 @@ fn sum_of(digits: &[u8]) -> Value
     let mut i: usize = 0;
     while i < digits.len() {
         let b = digits[i];
-        if b < 48 {
+        if b < b'0' {
             return Value::Unclear;
         }
-        if 57 < b {
+        if b'9' < b {
             return Value::Unclear;
         }
-        if 1000000000000000000 < sum {
+        if ROOM < sum {
             return Value::Unclear;
         }
-        sum = sum * 10 + (b - 48) as u64;
+        sum = sum * 10 + (b - b'0') as u64;
         i += 1;
     }
     Value::Is(sum)
@@ -103,7 +117,7 @@ fn value_of(digits: &[u8]) -> Value
     if digits.len() == 0 {
         return Value::Unclear;
     }
-    if digits[0] == 48 {
+    if digits[0] == b'0' {
         if 1 < digits.len() {
             return Value::Unclear;
         }
@@ -149,13 +163,4 @@ pub fn ended(text: &[u8], c: Cursor) -> bool {
         return false;
     }
     c.at == text.len()
-}
-
-pub fn begin(text: &[u8], expected: &[u8]) -> Cursor {
-    let start = Cursor {
-        at: 0,
-        good: true,
-        value: 0,
-    };
-    word(text, start, expected)
 }

@@ -34,7 +34,7 @@ pub fn line_end(text: &[u8], at: usize) -> usize
 {
     let mut i = at;
     while i < text.len() {
-        if text[i] == 10 {
+        if text[i] == b'\n' {
             return i;
         }
         i += 1;
@@ -84,7 +84,6 @@ fn bytes_line(text: &[u8], c: Cursor) -> Line {
 }
 
 fn typed_line(text: &[u8], c: Cursor) -> Line {
-    let zz: u8 = 0;
     let size = field(text, c, b" size=", MOST);
     let align = field(text, size, b" align=", MOST);
     if !ended(text, align) {

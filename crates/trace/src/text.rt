@@ -1,5 +1,5 @@
-// Answers as text. Each function puts text into `out` at a position and answers the position after it; what does not fit is
-// left out.
+// Answers as text. Each function puts text into `out` at a position and answers the position after it. What does not
+// fit is left out.
 use crate::calls::Call;
 use records::Answer;
 use records::Block;
@@ -71,19 +71,21 @@ pub fn put_pair(out: &mut [u8], at: usize, first: &[u8], m: u64, second: &[u8], 
 fn put_block(out: &mut [u8], at: usize, block: Block) -> usize
     ensures { λ r. ⌜ r ≤ length (now (out .entry)) ⌝ }
 {
+    let offset = block.memory_offset as u64;
     let memory = put_pair(
         out,
         at,
         b" memory=",
-        block.memory_offset as u64,
+        offset,
         b" length=",
         block.memory_size as u64,
     );
+    let start = block.usable_offset as u64;
     put_pair(
         out,
         memory,
         b" at=",
-        block.usable_offset as u64,
+        start,
         b" usable=",
         block.usable_size as u64,
     )
@@ -165,7 +167,7 @@ pub fn put_answer(out: &mut [u8], at: usize, call: Call, answer: Answer, kept: K
         Answer::InsufficientSpace {
             requested,
             available,
-        } => put_carrying(out, at, 9, requested, available),
+        } => { put_carrying(out, at, 9, requested, available) }
     }
 }
 
