@@ -16,12 +16,13 @@ use Rattle.records.specs.declared.Freelist.the-variants.{None, Ordered}
 use Rattle.records.specs.declared.Shape.{Shape}
 use Rattle.records.specs.declared.Header.{Header}
 use Rattle.records.specs.declared.Segment.the-variants.{At, Refused}
+use Rattle.records.proofs.Rules.{cut-of}
 use Rattle.freelist.specs.Check.{passed, meets}
 use Rattle.freelist.specs.Link.{Inserted}
 use Rattle.freelist.specs.Sound.{firstOf, sound, free}
 use Rattle.freelist.proofs.Arenas.{sound-head}
 use Rattle.arena.specs.Give.{putIn, belowTop, givingBack}
-use Rattle.arena.proofs.Lists.{Held, segment-ends}
+use Rattle.arena.proofs.Lists.{Held}
 
 module _ (s : Shape) (h : Header) (l : List ℕ) (offset size : ℕ) where
   pub gives-read-only : s .«read_only» ≡ true → refuses 1 [] h l ≡ givingBack s h l offset size
@@ -71,7 +72,7 @@ module _ (s : Shape) (h : Header) (l : List ℕ) (offset size : ℕ) where
     -- the node lies in the buffer
     pub node-inside : sound s h l ≡ true → offset + size ≤ h .allocated → (p + 8 + n ≤ length l) × (length l < endMark)
     node-inside good below =
-        let e = segment-ends _ _ _ _ _ rule in
+        let e = cut-of _ _ _ _ _ rule .ends in
         let k = sound-head s h l good in
         (omega arith, omega arith)
 

@@ -1,26 +1,15 @@
--- The free list as the code holds it, and the numbers of a node that the segment rule makes of a range.
+-- The free list as the code holds it: bytes, a first node and a number of nodes.
 -- Assumes nothing.
-use Prim.Native.Nat.{ℕ, _+_, _-_, _≤_}
-use mathlib.Core.Path.{_≡_, refl}
-use mathlib.Core.Bool.{Bool, true, false, _||_}
+use Prim.Native.Nat.{ℕ}
+use mathlib.Core.Path.{_≡_}
+use mathlib.Core.Bool.{true}
 use mathlib.Core.List.{List}
-use native.Mathlib.Omega.{arith}
-use borrow.Author.Tests.{leb-false}
-use lib.Dec.{leb, ltb, eqb}
-use lib.ListN.{length, take}
-use Rattle.words.specs.Round.{roundUp}
+use lib.ListN.{length}
 use Rattle.words.specs.Word.{wordAt, endMark}
-use Rattle.words.proofs.Rounding.{round-ge}
-use Rattle.records.specs.Pick.{pick}
-use Rattle.records.specs.Rule.{padding, segmentOf}
-use Rattle.records.specs.declared.Order.{Order}
 use Rattle.records.specs.declared.Shape.{Shape}
 use Rattle.records.specs.declared.Header.{Header}
-use Rattle.records.specs.declared.Segment.the-variants.{At, Refused}
-use Rattle.freelist.specs.Segs.{Seg, Run, All, EndsBy, leads}
+use Rattle.freelist.specs.Segs.{Seg, Run, All, EndsBy}
 use Rattle.freelist.specs.Check.{after, passed}
-use Rattle.freelist.specs.Place.{place}
-use Rattle.freelist.specs.Link.{lastOf, linkHead, insertHead, Inserted}
 use Rattle.freelist.specs.Sound.{firstOf, sound, free, surveyed}
 use Rattle.freelist.specs.declared.Finding.the-variants.{Sound}
 use Rattle.freelist.proofs.Runs.{run-after, run-passed}
@@ -54,28 +43,3 @@ pub found-counted : (s : Shape) (h : Header) (l : List ℕ) (first count : ℕ) 
 found-counted s h l first count e starts =
     let f = found-sound s h l count e in
     record { good = f .0; counts = f .1; held = free-held s h l first count (f .0) starts (f .1) }
-
--- the node that the segment rule makes of a range ends where the range does
-pub segment-ends : (least offset size p n : ℕ) → segmentOf least offset size ≡ At p n → p + 8 + n ≡ offset + size
-unfolding segmentOf
-segment-ends least offset size p n =
-    go (eqb offset 0 || eqb size 0) (leb size (padding offset + 8)) (ltb (size - padding offset - 8) least) refl
-  where
-    go : (a b c : Bool) → leb size (padding offset + 8) ≡ b → pick (a || b || c) Refused (At (roundUp 8 offset) (size - padding offset - 8)) ≡ At p n → p + 8 + n ≡ offset + size
-    go true b c t e = let z : _≡_ {A = ℕ} 0 1 = cc in absurd (omega arith)
-    go false true c t e = let z : _≡_ {A = ℕ} 0 1 = cc in absurd (omega arith)
-    go false false true t e = let z : _≡_ {A = ℕ} 0 1 = cc in absurd (omega arith)
-    go false false false t e =
-        let a : roundUp 8 offset ≡ p = cc in
-        let b : size - padding offset - 8 ≡ n = cc in
-        omega (arith, round-ge 8 offset (omega arith), leb-false size (padding offset + 8) t)
-
--- the first node of a list with one node more is the new one or the one before
-pub inserted-small : {l m : List ℕ} {segs : List Seg} {first to : ℕ} {o : Order} {q : Seg} (n : ℕ) → Inserted l segs first o q m to → first ≤ n → q .offset ≤ n → to ≤ n
-unfolding insertHead linkHead
-inserted-small {segs = segs} {first = first} {o = o} {q = q} n i a b =
-    rw (i .starts) (go (eqb (lastOf (take (place (leads o q) segs) segs)) endMark))
-  where
-    go : (t : Bool) → pick t (q .offset) first ≤ n
-    go true = b
-    go false = a

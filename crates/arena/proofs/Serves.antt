@@ -1,9 +1,9 @@
 -- A node leaves the list and serves a request: what holds of the list then, and the two answers of `serve`, by the segment rule.
 -- Assumes nothing.
 use Prim.Native.Nat.{ℕ, _+_, _-_, _≤_}
-use mathlib.Core.Path.{_≡_, refl, sym, ap}
+use mathlib.Core.Path.{_≡_, refl, sym}
 use mathlib.Core.Bool.{true}
-use mathlib.Core.List.{List, [], _∷_}
+use mathlib.Core.List.{List}
 use native.Mathlib.Omega.{arith}
 use lib.ListN.{length, getD}
 use Rattle.words.specs.Word.{wordAt, sizeHalf, endMark, zeroed}
@@ -18,6 +18,7 @@ use Rattle.records.specs.declared.Shape.{Shape}
 use Rattle.records.specs.declared.Header.{Header}
 use Rattle.records.specs.declared.Request.{Request}
 use Rattle.records.specs.declared.Segment.the-variants.{At, Refused}
+use Rattle.records.proofs.Rules.{cut-of}
 use Rattle.requests.specs.Request.{need, listBlock}
 use Rattle.freelist.specs.Segs.{Seg, InRange, Listed}
 use Rattle.freelist.specs.Check.{passed}
@@ -26,24 +27,18 @@ use Rattle.freelist.specs.Link.{removeBytes, removeHead, Inserted, Removed}
 use Rattle.freelist.specs.Sound.{firstOf, sound, free}
 use Rattle.freelist.specs.declared.Spot.{Spot}
 use Rattle.freelist.proofs.Places.{all-at, length-removed}
+use Rattle.freelist.proofs.Links.{run-small, inserted-small}
 use Rattle.freelist.proofs.Seeks.{run-node}
 use Rattle.freelist.proofs.Checks.{listed-ends}
 use Rattle.freelist.proofs.Sounds.{listed-remove}
 use Rattle.freelist.proofs.Arenas.{sound-listed}
 use Rattle.arena.specs.Take.{nowhere, serve, serveFrom}
 use Rattle.arena.specs.Look.{Serves, handedOut}
-use Rattle.arena.proofs.Lists.{Held, run-held, free-held, segment-ends, inserted-small}
+use Rattle.arena.proofs.Lists.{Held, run-held, free-held}
 
 -- a block handed out, from what the callees leave
 pub hands-out : (h : Header) (l l₁ : List ℕ) (p m n : ℕ) (r : Request) (b : Block) → n ≡ need r → l₁ ≡ zeroed l (p + 8) (p + 8 + n) → b ≡ listBlock p m r → leaves (granted b) h l₁ ≡ handedOut h l p m r
 hands-out h l l₁ p m n r b is e f = rw (e, f, is) refl
-
--- a list's first node, or the end mark
-first-small : (l : List ℕ) (first start top : ℕ) (o : Order) (segs : List Seg) → Listed l first start top o segs → first ≤ endMark
-first-small l first start top o [] k = omega (arith, k .run)
-first-small l first start top o (s ∷ ss) k =
-    let e : s .offset ≡ first = ap (λ (t : Seg). t .offset) (k .run .1) in
-    omega (arith, k .good .ranged .0 .below)
 
 -- the k-th node, which stands at p and has the room that the request needs, left the list: the bytes and the first node then, and the list that they hold
 pub record Left (h : Header) (l : List ℕ) (segs : List Seg) (r : Request) (count k p size n : ℕ) (l₁ : List ℕ) (first : ℕ) : Type 0 where
@@ -70,6 +65,7 @@ node-left s h l l₁ o r spot first count size n first₁ good policy starts cou
     let range = all-at (InRange (s .«data_offset») (h .allocated)) k segs nowhere (v .inside) (list .good .ranged) in
     let room : InRange (s .«data_offset») (h .allocated) (record { offset = spot .next; size = size }) = rw node at range in
     let rest : Listed l₁ first₁ (s .«data_offset») (h .allocated) o (removeAt k segs) = rw (gone₁ .bytes, gone₁ .starts) (listed-remove _ _ _ _ _ _ list k (v .inside)) in
+    let ends = listed-ends _ _ _ _ _ _ rest in
     record {
       needs = needs;
       room = rw needs (rw node at (v .room));
@@ -77,9 +73,9 @@ node-left s h l l₁ o r spot first count size n first₁ good policy starts cou
       bytes = gone₁ .bytes;
       starts = gone₁ .starts;
       held =
-          run-held l₁ first₁ (count - 1) (removeAt k segs) (rest .run) (listed-ends _ _ _ _ _ _ rest)
+          run-held l₁ first₁ (count - 1) (removeAt k segs) (rest .run) ends
           (rw counted (sym (length-removed k segs (v .inside))));
-      small = first-small _ _ _ _ _ _ rest;
+      small = omega (arith, run-small (wordAt l₁) (length l₁) first₁ (removeAt k segs) (omega (arith, rest .limited)) ends (rest .run));
       inside = omega (arith, room .below, rest .inside);
       limited = rest .limited;
     }
@@ -93,7 +89,7 @@ module _ {h : Header} {l l₁ : List ℕ} {segs : List Seg} {r : Request} {count
   -- what the rule accepts goes back
   module _ (q m : ℕ) (e : segmentOf (h .«min_segment_size») (p + 8 + n) (size - n) ≡ At q m) where
     pub split-inside : q + 8 + m ≤ length l₁
-    split-inside = omega (arith, segment-ends _ _ _ _ _ e, g .room, g .inside)
+    split-inside = omega (arith, cut-of _ _ _ _ _ e .ends, g .room, g .inside)
 
     module _ (l₂ : List ℕ) (o : Order) (first₂ : ℕ) (into : Inserted l₁ (passed (wordAt l₁) (count - 1) first) first o (record { offset = q; size = m }) l₂ first₂) where
       pub split-small : first₂ ≤ endMark

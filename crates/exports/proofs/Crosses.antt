@@ -8,9 +8,10 @@ use mathlib.Core.Bool.{true, false, _||_}
 use mathlib.Core.List.{List, [], _∷_}
 use native.Mathlib.Omega.{arith}
 use lib.Dec.{eqb}
-use lib.ListN.{length, getD, length-set}
+use lib.ListN.{length, getD}
 use lib.Seq.{set-getD, sets-eq}
 use Rattle.words.specs.Word.{nodeWord, sizeHalf, nextHalf}
+use Rattle.words.proofs.Digits.{word-size, word-next}
 use Rattle.records.specs.Pick.{pick}
 use Rattle.records.specs.Answer.{Outcome, outcome, leaves, Said, said, granted, nothing, givenBack, sum, done, refused}
 use Rattle.records.specs.Setup.{policyOf}
@@ -24,6 +25,7 @@ use Rattle.records.specs.declared.Order.the-variants.{Optimistic, Pessimistic}
 use Rattle.records.specs.declared.Policy.the-variants.{Known}
 use Rattle.records.specs.declared.Reply.{Reply}
 use Rattle.records.specs.declared.Shape.{Shape}
+use Rattle.records.proofs.Rules.{policy-codes}
 use Rattle.exports.specs.Crossing.{headerOf, stored, codeOf, shapeOut, shapeWith, received, numbersOf, answerOf, Sent, crossed, crossing}
 use Rattle.exports.specs.declared.CAnswer.{CAnswer}
 use Rattle.exports.specs.declared.CShape.{CShape}
@@ -32,14 +34,7 @@ use Rattle.exports.specs.declared.Received.the-variants.{Read, Unreadabl
 
 -- load, then store: the six numbers are what they were, since the first is a u32
 pub stored-same : (n : List ℕ) → getD n 0 0 < 4294967296 → stored n (headerOf n) ≡ n
-stored-same n h =
-    let next : nextHalf (nodeWord (getD n 1 0) (getD n 0 0)) ≡ getD n 0 0 = omega arith in
-    let size : sizeHalf (nodeWord (getD n 1 0) (getD n 0 0)) ≡ getD n 1 0 = omega arith in
-    simp (next, size, set-getD)
-
--- there are six numbers before and after
-pub stored-length : (n : List ℕ) (h : Header) → length (stored n h) ≡ length n
-stored-length n h = simp length-set
+stored-same n h = simp (word-next (getD n 1 0) (getD n 0 0) h, word-size (getD n 1 0) (getD n 0 0) h, set-getD)
 
 -- store, then load: the header is what it was, so the next call goes on from the arena that the last one left
 pub loaded-same : (n : List ℕ) (h : Header) → length n ≡ 6 → headerOf (stored n h) ≡ h
@@ -70,10 +65,9 @@ module _ (c : CShape) (n l : List ℕ) (call : Shape → Header → List ℕ →
 
 -- a policy's code names it
 code-names : (f : Freelist) → policyOf (codeOf f) ≡ Known f
-unfolding policyOf
-code-names None = refl
-code-names (Ordered Optimistic) = refl
-code-names (Ordered Pessimistic) = refl
+code-names None = policy-codes .0
+code-names (Ordered Optimistic) = policy-codes .1
+code-names (Ordered Pessimistic) = policy-codes .2
 
 -- a shape and a header that were sent are received as they were
 pub sent-received : (s : Shape) (h : Header) (n : List ℕ) → length n ≡ 6 → received (shapeOut s) (stored n h) ≡ Read (record { shape = s; header = h })

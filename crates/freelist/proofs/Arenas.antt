@@ -3,7 +3,7 @@
 -- Assumes nothing.
 use mathlib.Core.Path.{_≡_, refl, sym, subst}
 use mathlib.Core.Logic.{_↔_}
-use mathlib.Core.Bool.{Bool, true, false, _&&_}
+use mathlib.Core.Bool.{true, _&&_}
 use mathlib.Core.List.{List, []}
 use Prim.Native.Nat.{ℕ, _/_, _≤_}
 use native.Mathlib.Omega.{arith}
@@ -11,7 +11,7 @@ use borrow.Author.Tests.{eqb-true, eq-eqb}
 use lib.Dec.{eqb}
 use lib.ListN.{length}
 use Rattle.words.specs.Word.{wordAt, sizeHalf, endMark}
-use Rattle.records.specs.Setup.{limit, dataOffset}
+use Rattle.records.specs.Setup.{limit}
 use Rattle.records.specs.Head.{Head, headSound}
 use Rattle.records.specs.declared.Order.{Order}
 use Rattle.records.specs.declared.Freelist.{Freelist}
@@ -19,13 +19,12 @@ use Rattle.records.specs.declared.Freelist.the-variants.{None, Ordered}
 use Rattle.records.specs.declared.Shape.{Shape}
 use Rattle.records.specs.declared.Header.{Header}
 use Rattle.records.proofs.Facts.{both, head-facts, facts-head}
+use Rattle.records.proofs.Rules.{data-past}
 use Rattle.freelist.specs.Segs.{Seg, Run, All, Pairwise, Apart, InRange, EndsBy, Listed}
-use Rattle.freelist.specs.Check.{after, passed}
 use Rattle.freelist.specs.Link.{sizes}
 use Rattle.freelist.specs.Sound.{firstOf, listSound, sound, freeFrom, free, Disjoint, InOrder, Sound}
 use Rattle.freelist.proofs.Listing.{all-map, pairs-map}
 use Rattle.freelist.proofs.Meets.{apart-bytes, bytes-apart}
-use Rattle.freelist.proofs.Runs.{run-after, run-passed}
 use Rattle.freelist.proofs.Totals.{few, sizes-within}
 use Rattle.freelist.proofs.Checks.{checked-listed, listed-checked, listed-run}
 
@@ -65,12 +64,6 @@ module _ (l : List ℕ) (head start top : ℕ) where
     make-frees (Ordered o) a b c d r g p i =
         record { limited = a; starts = b; ordered = c; inside = d; run = r; good = record { ranged = g; apart = p; sorted = i } }
 
--- a data offset lies past the first byte
-data-past : (reserved : ℕ) (unify : Bool) → 1 ≤ dataOffset reserved unify
-unfolding dataOffset
-data-past reserved true = omega arith
-data-past reserved false = omega arith
-
 module _ (s : Shape) (h : Header) (l : List ℕ) where
   pub head-numbers : Head s h (length l) → (length l ≤ limit) × (1 ≤ s .«data_offset») × (s .«data_offset» ≤ h .allocated) × (h .allocated ≤ length l)
   head-numbers k =
@@ -103,22 +96,13 @@ module _ (s : Shape) (h : Header) (l : List ℕ) where
         let n = head-numbers sound-head in
         list-frees l (firstOf h) (s .«data_offset») (h .allocated) (s .freelist) (n .0) (n .1) (n .2) (n .3) (tests .2)
 
-    -- by the policy: a list of the order, or none
+    -- under an ordered policy: a list of the order
     pub sound-listed : (o : Order) → s .freelist ≡ Ordered o → Listed l (firstOf h) (s .«data_offset») (h .allocated) o (free s h l)
     sound-listed o e = subst (λ (f : Freelist). Frees f l (firstOf h) (s .«data_offset») (h .allocated) (free s h l)) e sound-frees
-
-    pub sound-none : s .freelist ≡ None → (firstOf h ≡ endMark) × (free s h l ≡ [])
-    sound-none e = subst (λ (f : Freelist). Frees f l (firstOf h) (s .«data_offset») (h .allocated) (free s h l)) e sound-frees
 
     -- for every policy: the walk and the segments
     pub sound-run : Run (wordAt l) (firstOf h) (free s h l) endMark
     sound-run = frees-run l (firstOf h) (s .«data_offset») (h .allocated) (free s h l) (s .freelist) sound-frees
-
-    pub sound-passed : (n : ℕ) → n ≡ length (free s h l) → passed (wordAt l) n (firstOf h) ≡ free s h l
-    sound-passed = run-passed (wordAt l) (firstOf h) endMark (free s h l) sound-run
-
-    pub sound-after : (n : ℕ) → n ≡ length (free s h l) → after (wordAt l) n (firstOf h) ≡ endMark
-    sound-after = run-after (wordAt l) (firstOf h) endMark (free s h l) sound-run
 
     pub sound-ranged : All (InRange (s .«data_offset») (h .allocated)) (free s h l)
     sound-ranged = frees-ranged l (firstOf h) (s .«data_offset») (h .allocated) (free s h l) (s .freelist) sound-frees

@@ -15,15 +15,14 @@ use Rattle.records.specs.Pick.{pick}
 use Rattle.records.specs.Setup.{limit}
 use Rattle.records.specs.declared.Order.{Order}
 use Rattle.records.specs.declared.Order.the-variants.{Optimistic, Pessimistic}
-use Rattle.records.proofs.Facts.{both}
+use Rattle.records.proofs.Facts.{both, fails}
 use Rattle.freelist.specs.Segs.{Seg, Run, All, Pairwise, Apart, InRange, EndsBy, Leads, Good, Listed, segAt, nextAt, endOf}
 use Rattle.freelist.specs.Check.{after, passed, kept, inRange, follows, mayFollow, goodRun, soundb}
 use Rattle.freelist.specs.Split.{mayCome, rangedRun}
-use Rattle.freelist.specs.Link.{sizes}
 use Rattle.freelist.proofs.Listing.{all-map, all-append, all-split, pairs-snoc, pairs-at}
 use Rattle.freelist.proofs.Meets.{apart-all, meets-none}
 use Rattle.freelist.proofs.Runs.{run-after, run-passed}
-use Rattle.freelist.proofs.Totals.{few, sizes-within}
+use Rattle.freelist.proofs.Totals.{few}
 
 -- each of these passed the test, told what came before
 abbrev Steps : (List Seg → Seg → Bool) → List Seg → List Seg → Type 0
@@ -75,11 +74,7 @@ module _ (start top : ℕ) (s : Seg) where
       rw (eq-eqb (s .offset % 8) 0 (h .aligned), le-leb start (s .offset) (h .above), le-leb 1 (s .size) (h .holds), le-leb (endOf s) top (h .below)) refl
 
   pub range-no : (InRange start top s → ⊥) → inRange start top s ≡ false
-  range-no h = go (inRange start top s) refl
-    where
-      go : (b : Bool) → inRange start top s ≡ b → inRange start top s ≡ false
-      go true e = absurd (h (in-range e))
-      go false e = e
+  range-no h = fails (inRange start top s) (λ e. h (in-range e))
 
 pub leads-trans : (o : Order) (s t u : Seg) → Leads o s t → Leads o t u → Leads o s u
 leads-trans Optimistic s t u h k = omega (arith, leb-true, le-leb)
@@ -237,6 +232,3 @@ module _ (l : List ℕ) (head start top : ℕ) (o : Order) where
 
     pub listed-ends : All (EndsBy (length l)) segs
     listed-ends = all-map (InRange start top) (EndsBy (length l)) (λ t r. omega (arith, s .inside)) segs (s .good .ranged)
-
-    pub listed-sizes : sizes segs ≤ length l
-    listed-sizes = omega (arith, sizes-within start top segs (s .good .ranged) (s .good .apart), s .inside)

@@ -12,6 +12,7 @@ pub mod Marks
 pub mod Claims
 pub mod Seeks
 pub mod Links
+pub mod Stills
 pub mod Sounds
 pub mod Arenas
 pub mod Moves

@@ -1,22 +1,23 @@
 -- The run of nodes after one is put in or taken out: the list is cut at the place into a and b, the last node of a is linked anew, and the two runs are joined again.
 -- First over any reading of words (`w` before, `v` after), then in bytes. Assumes nothing.
 use mathlib.Core.Path.{_≡_, refl, sym, ap, _∙_}
-use mathlib.Core.Logic.{inl, inr, _≢_}
-use mathlib.Core.Bool.{Bool, true, false}
+use mathlib.Core.Logic.{_≢_}
 use mathlib.Core.List.{List, [], _∷_, _++_}
 use Prim.Native.Nat.{ℕ, suc, _+_, _^_, _≤_, _<_}
 use native.Mathlib.Omega.{arith}
 use borrow.Author.Tests.{eq-eqb, ne-eqb}
 use lib.Dec.{eqb}
-use lib.ListN.{length, take, drop, take-append-drop}
+use lib.ListN.{length, take, drop}
 use Rattle.words.specs.Word.{wordAt, putWord, nodeWord, sizeHalf, endMark}
+use Rattle.words.proofs.Ranges.{parted-parts}
 use Rattle.words.proofs.Digits.{put-length, put-same, word-size, word-next}
-use Rattle.records.specs.Pick.{pick}
+use Rattle.records.proofs.Facts.{pick-either}
 use Rattle.records.specs.declared.Order.{Order}
 use Rattle.freelist.specs.Segs.{Seg, Run, All, Pairwise, Apart, EndsBy, leads, nextAt, endOf}
-use Rattle.freelist.specs.Link.{startOf, lastOf, linkBytes, linkHead, Spotted, insertBytes, insertHead, removeBytes, Inserted}
+use Rattle.freelist.specs.Link.{startOf, lastOf, linkBytes, linkHead, Spotted, insertBytes, insertHead, removeBytes, removeHead, Inserted}
 use Rattle.freelist.specs.Place.{place}
-use Rattle.freelist.proofs.Listing.{all-map, all-split, all-both, pairs-map, pairs-split}
+use Rattle.freelist.proofs.Listing.{all-map, all-split, all-sides, all-both, pairs-map, pairs-split}
+use Rattle.freelist.proofs.Meets.{apart-sym}
 use Rattle.freelist.proofs.Runs.{run-append, run-split, run-agree, run-start}
 use Rattle.freelist.proofs.Words.{Outside, put-outside, put-words}
 
@@ -32,15 +33,10 @@ abbrev Far : ℕ → Seg → Type 0
 Far p s = Outside p (p + 8) s
 
 far-of : (s t : Seg) → Apart s t → Far (t .offset) s
-far-of s t (inl h) = inl (omega arith)
-far-of s t (inr h) = inr (omega arith)
-
-far-to : (s t : Seg) → Apart s t → Far (s .offset) t
-far-to s t (inl h) = inr (omega arith)
-far-to s t (inr h) = inl (omega arith)
+far-of s t = parted-parts (s .offset) (s .offset + 8) (t .offset) (t .offset + 8) (omega arith) (omega arith) (omega arith) (omega arith)
 
 -- what holds of each offset holds of the last
-last-holds : (P : ℕ → Type 0) (s : Seg) (ss : List Seg) → All (λ t. P (t .offset)) (s ∷ ss) → P (lastOf (s ∷ ss))
+pub last-holds : (P : ℕ → Type 0) (s : Seg) (ss : List Seg) → All (λ t. P (t .offset)) (s ∷ ss) → P (lastOf (s ∷ ss))
 last-holds P s [] a = a .0
 last-holds P s (t ∷ ss) a = last-holds P t ss (a .1)
 
@@ -80,14 +76,9 @@ put-run l p x fits a b ss f = run-agree (wordAt l) (wordAt (putWord l p x)) a b 
 length-link : (l : List ℕ) (ss : List Seg) (x : ℕ) → All (EndsBy (length l)) ss → length (linkBytes l (lastOf ss) x) ≡ length l
 unfolding linkBytes
 length-link l [] x e = refl
-length-link l (s ∷ ss) x e = go (eqb last endMark)
-  where
-    last : ℕ
-    last = lastOf (s ∷ ss)
-
-    go : (b : Bool) → length (pick b l (putWord l last (nodeWord (sizeHalf (wordAt l last)) x))) ≡ length l
-    go true = refl
-    go false = put-length l last (nodeWord (sizeHalf (wordAt l last)) x) (last-in (length l) s ss e)
+length-link l (s ∷ ss) x e =
+    pick-either (λ (m : List ℕ). length m ≡ length l) (eqb (lastOf (s ∷ ss)) endMark) _ _ (λ _. refl)
+    (λ _. put-length l (lastOf (s ∷ ss)) _ (last-in (length l) s ss e))
 
 -- the link after a run set to x
 module _ (l : List ℕ) (x : ℕ) (small : x < 4294967296) (short : length l < 4294967296) where
@@ -109,7 +100,7 @@ module _ (l : List ℕ) (x : ℕ) (small : x < 4294967296) (short : length l < 4
   link-others head m p q [] ts e f r t = t
   link-others head m p q (s ∷ ss) ts e f r t =
       let last = lastOf (s ∷ ss) in
-      let d : All (Far last) ts = last-holds (λ o. All (Far o) ts) s ss (all-map (λ s. All (Apart s) ts) (λ s. All (Far (s .offset)) ts) (λ s. all-map (Apart s) (Far (s .offset)) (far-to s) ts) (s ∷ ss) f) in
+      let d : All (Far last) ts = last-holds (λ o. All (Far o) ts) s ss (all-map (λ s. All (Apart s) ts) (λ s. All (Far (s .offset)) ts) (λ s. all-map (Apart s) (Far (s .offset)) (λ t a. far-of t s (apart-sym s t a)) ts) (s ∷ ss) f) in
       rw (ne-eqb last endMark (last-not-end (wordAt l) head m s ss r))
       (put-run l last (nodeWord (sizeHalf (wordAt l last)) x) (last-in (length l) s ss e) p q ts d t)
 
@@ -117,6 +108,27 @@ module _ (l : List ℕ) (x : ℕ) (small : x < 4294967296) (short : length l < 4
 pub start-small : (n : ℕ) (ss : List Seg) → n < 4294967295 → All (EndsBy n) ss → startOf ss < 4294967296
 start-small n [] h e = omega arith
 start-small n (s ∷ ss) h e = omega (arith, e .0)
+
+-- so a list starts below 2^32
+pub run-small : (w : ℕ → ℕ) (n p : ℕ) (ss : List Seg) → n < 4294967295 → All (EndsBy n) ss → Run w p ss endMark → p < 4294967296
+run-small w n p ss h e r = rw (run-start w p ss r) (start-small n ss h e)
+
+-- what holds of both nodes that a link may leave first holds of the first
+link-either : (P : ℕ → Type 0) (head prev x : ℕ) → P x → P head → P (linkHead head prev x)
+unfolding linkHead
+link-either P head prev x a b = pick-either P (eqb prev endMark) x head (λ _. a) (λ _. b)
+
+-- the first node of a list with one node more is the new one or the one before
+pub inserted-small : {l m : List ℕ} {segs : List Seg} {first to : ℕ} {o : Order} {q : Seg} (n : ℕ) → Inserted l segs first o q m to → first ≤ n → q .offset ≤ n → to ≤ n
+unfolding insertHead
+inserted-small n i a b = rw (i .starts) (link-either (λ (x : ℕ). x ≤ n) _ _ _ b a)
+
+-- the first of a list with one node fewer is below 2^32 too
+pub remove-small : (n head : ℕ) (segs : List Seg) (k : ℕ) → n < 4294967295 → All (EndsBy n) segs → head < 4294967296 → removeHead head segs k < 4294967296
+unfolding removeHead
+remove-small n head segs k h e small =
+    link-either (λ (x : ℕ). x < 4294967296) head (lastOf (take k segs)) (startOf (drop (suc k) segs))
+    (start-small n (drop (suc k) segs) h (all-sides (EndsBy n) (suc k) segs e .1)) small
 
 -- a node q put in between a and b, and a node t taken out from between them
 module _ (l : List ℕ) (short : length l < 4294967295) where
@@ -168,7 +180,7 @@ module _ (l : List ℕ) (short : length l < 4294967295) where
 -- and both leave the length
 module _ (l : List ℕ) (segs : List Seg) (ends : All (EndsBy (length l)) segs) (k : ℕ) where
   before : All (EndsBy (length l)) (take k segs)
-  before = all-split (EndsBy (length l)) (take k segs) (drop k segs) (rw (take-append-drop k segs) ends) .0
+  before = all-sides (EndsBy (length l)) k segs ends .0
 
   pub insert-length : (q : Seg) → endOf q ≤ length l → length (insertBytes l segs k q) ≡ length l
   unfolding insertBytes

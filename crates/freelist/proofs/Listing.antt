@@ -1,6 +1,8 @@
 -- Laws of `All` and `Pairwise`, over any elements and any relation: mapped, joined and split, so that every list is proved about by cutting it in two.
 -- Assumes nothing.
+use Prim.Native.Nat.{ℕ}
 use mathlib.Core.List.{List, [], _∷_, _++_}
+use lib.ListN.{take, drop, take-append-drop}
 use Rattle.freelist.specs.Segs.{All, Pairwise}
 
 module _ {A : Type 0} (P : A → Type 0) where
@@ -15,6 +17,10 @@ module _ {A : Type 0} (P : A → Type 0) where
   pub all-split : (xs ys : List A) → All P (xs ++ ys) → All P xs × All P ys
   all-split [] ys h = (tt, h)
   all-split (x ∷ xs) ys h = let r = all-split xs ys (h .1) in ((h .0, r .0), r .1)
+
+  -- the elements before a place, and those from it on
+  pub all-sides : (k : ℕ) (xs : List A) → All P xs → All P (take k xs) × All P (drop k xs)
+  all-sides k xs h = all-split (take k xs) (drop k xs) (rw (take-append-drop k xs) h)
 
 module _ {A : Type 0} (P Q S : A → Type 0) where
   pub all-both : ((x : A) → P x → Q x → S x) → (xs : List A) → All P xs → All Q xs → All S xs

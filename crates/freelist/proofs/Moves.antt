@@ -19,10 +19,10 @@ use Rattle.freelist.specs.Place.{place, insertAt, removeAt}
 use Rattle.freelist.specs.Link.{insertBytes, insertHead, removeBytes, removeHead}
 use Rattle.freelist.specs.Sound.{firstOf, sound, free, InOrder}
 use Rattle.freelist.proofs.Listing.{all-map}
-use Rattle.freelist.proofs.Runs.{run-start}
+use Rattle.freelist.proofs.Places.{mem-all}
 use Rattle.freelist.proofs.Words.{Same, Agree, Outside, agree-words, put-words, zeroed-words}
-use Rattle.freelist.proofs.Links.{start-small, insert-length, remove-length}
-use Rattle.freelist.proofs.Sounds.{listed-kept, listed-insert, listed-remove, all-true}
+use Rattle.freelist.proofs.Links.{run-small, insert-length, remove-length}
+use Rattle.freelist.proofs.Sounds.{listed-kept, listed-insert, listed-remove}
 use Rattle.freelist.proofs.Arenas.{Frees, make-frees, frees-run, frees-ranged, frees-sound, head-numbers, sound-head, sound-marked, sound-frees, sound-listed, sound-ends, sound-below}
 
 -- an arena with this header and these bytes is sound, and these are its free segments
@@ -45,7 +45,7 @@ module _ (s : Shape) (h : Header) (l : List ℕ) (x : ℕ) (e : h .sentinel ≡ 
       let n = head-numbers s h l k in
       let r = frees-run l x (s .«data_offset») (h .allocated) segs (s .freelist) f in
       let ends = all-map (InRange (s .«data_offset») (h .allocated)) (EndsBy (length l)) (λ t g. omega (arith, n .3)) segs (frees-ranged l x (s .«data_offset») (h .allocated) segs (s .freelist) f) in
-      let small : x < 4294967296 = rw (run-start (wordAt l) x segs r) (start-small (length l) segs (omega (arith, n .0)) ends) in
+      let small = run-small (wordAt l) (length l) x segs (omega (arith, n .0)) ends r in
       let size : sizeHalf (h .sentinel) ≡ endMark = rw e (word-size endMark x small) in
       let first : firstOf h ≡ x = rw e (word-next endMark x small) in
       frees-sound s h l k size segs (rw first f)
@@ -76,7 +76,7 @@ module _ (s : Shape) (h : Header) (l : List ℕ) (yes : sound s h l ≡ true) wh
 
   -- another top that no free segment passes, and any counters
   pub sound-top : (h′ : Header) → h′ .sentinel ≡ h .sentinel → s .«data_offset» ≤ h′ .allocated → h′ .allocated ≤ length l → All (EndsBy (h′ .allocated)) (free s h l) → Holds s h′ l (free s h l)
-  sound-top h′ e a b g = sound-kept h′ l e a b g refl (all-true (Same l l) (λ t. refl) (free s h l))
+  sound-top h′ e a b g = sound-kept h′ l e a b g refl (mem-all (Same l l) (free s h l) (λ t _. refl))
 
   sound-words : (m : List ℕ) → length m ≡ length l → All (Same l m) (free s h l) → Holds s h m (free s h l)
   sound-words m =

@@ -1,16 +1,16 @@
--- Laws of a place in a list, over any elements and any order: what a list keeps with one element more or fewer, that insertion before the first
--- that the new one leads keeps an order, and that the first to pass a test leads every other that passes.
+-- Laws of a place in a list and of its members, over any elements and any order: what a list keeps with one element more or fewer, that insertion before
+-- the first that the new one leads keeps an order, and that the first to pass a test leads every other that passes.
 -- Assumes nothing.
 use mathlib.Core.Path.{_≡_, refl, sym}
-use mathlib.Core.Bool.{Bool, true, false, _||_}
-use mathlib.Core.Logic.{⊎-elim}
-use mathlib.Core.List.{List, [], _∷_, _++_, List·Memᴰ, List·Memᴰ·not-nil, List·Memᴰ·cases-cons}
-use Prim.Native.Nat.{ℕ, zero, suc, _+_, _-_, _<_}
+use mathlib.Core.Bool.{Bool, true, false, false≢true}
+use mathlib.Core.Logic.{_⊎_, inl, inr, ⊎-elim}
+use mathlib.Core.List.{List, [], _∷_, _++_, List·Memᴰ, List·Memᴰ·head, List·Memᴰ·tail, List·Memᴰ·not-nil, List·Memᴰ·cases-cons}
+use Prim.Native.Nat.{ℕ, zero, suc, _+_, _-_, _≤_, _<_}
 use native.Mathlib.Nat.{zero-add}
 use native.Mathlib.Omega.{arith}
 use lib.ListN.{length, drop, getD}
+use Rattle.records.proofs.Facts.{neither, pick-either}
 use Rattle.freelist.specs.Segs.{All, Pairwise}
-use Rattle.records.specs.Pick.{pick}
 use Rattle.freelist.specs.Place.{place, any, insertAt, removeAt}
 use Rattle.freelist.proofs.Listing.{all-map}
 
@@ -52,37 +52,33 @@ So le x y = le x y ≡ true
 module _ {A : Type 0} (le : A → A → Bool) (trans : (x y z : A) → le x y ≡ true → le y z ≡ true → le x z ≡ true) where
   pub sorted-insert : (q : A) (xs : List A) → All (λ x. le q x ≡ false → le x q ≡ true) xs → Pairwise (So le) xs → Pairwise (So le) (insertAt (place (le q) xs) q xs)
   sorted-insert q [] t h = (tt, tt)
-  sorted-insert q (x ∷ xs) t h = go (le q x) refl (sorted-insert q xs (t .1) (h .1))
-    where
-      go : (b : Bool) → le q x ≡ b → Pairwise (So le) (insertAt (place (le q) xs) q xs) → Pairwise (So le) (insertAt (pick b 0 (suc (place (le q) xs))) q (x ∷ xs))
-      go true e r = ((e, all-map (So le x) (So le q) (λ y f. trans q x y e f) xs (h .0)), h)
-      go false e r = (all-insert (So le x) (place (le q) xs) q xs (t .0 e) (h .0), r)
+  sorted-insert q (x ∷ xs) t h =
+      pick-either (λ (k : ℕ). Pairwise (So le) (insertAt k q (x ∷ xs))) (le q x) _ _
+      (λ e. ((e, all-map (So le x) (So le q) (λ y f. trans q x y e f) xs (h .0)), h))
+      (λ e. (all-insert (So le x) (place (le q) xs) q xs (t .0 e) (h .0), sorted-insert q xs (t .1) (h .1)))
 
   -- the first that passes a test stands before every other that passes it
   pub first-leads : ((x : A) → le x x ≡ true) → (f : A → Bool) (xs : List A) (x : A) (ys : List A) → Pairwise (So le) xs → drop (place f xs) xs ≡ x ∷ ys → All (λ y. f y ≡ true → le x y ≡ true) xs
   first-leads same f [] x ys h e = tt
-  first-leads same f (z ∷ xs) x ys h e = go (f z) refl (λ k. first-leads same f xs x ys (h .1) k) e
-    where
-      go : (b : Bool) → f z ≡ b → (drop (place f xs) xs ≡ x ∷ ys → All (λ y. f y ≡ true → le x y ≡ true) xs) → drop (pick b 0 (suc (place f xs))) (z ∷ xs) ≡ x ∷ ys → All (λ y. f y ≡ true → le x y ≡ true) (z ∷ xs)
-      go true g r k =
-          let i : z ≡ x = cc in
-          (λ j. rw i (same x), all-map (So le z) (λ y. f y ≡ true → le x y ≡ true) (λ y m j. rw i at m) xs (h .0))
-      go false g r k = (λ j. let q : _≡_ {A = ℕ} 0 1 = cc in absurd (omega arith), r k)
-
-neither : (a b : Bool) → (a || b) ≡ false → (a ≡ false) × (b ≡ false)
-neither false b e = (refl, e)
-neither true b e = let z : _≡_ {A = ℕ} 0 1 = cc in absurd (omega arith)
+  first-leads same f (z ∷ xs) x ys h e =
+      pick-either (λ (k : ℕ). drop k (z ∷ xs) ≡ x ∷ ys → All (λ y. f y ≡ true → le x y ≡ true) (z ∷ xs)) (f z) _ _
+      (λ g k.
+      let i : z ≡ x = cc in
+      (λ j. rw i (same x), all-map (So le z) (λ y. f y ≡ true → le x y ≡ true) (λ y m j. rw i at m) xs (h .0)))
+      (λ g k. (λ j. absurd (false≢true cc), first-leads same f xs x ys (h .1) k)) e
 
 module _ {A : Type 0} (f : A → Bool) where
   -- the element at the place passes
   pub place-passes : (xs : List A) (d : A) → place f xs < length xs → f (getD xs (place f xs) d) ≡ true
   place-passes [] d h = absurd (omega arith)
-  place-passes (x ∷ xs) d h = go (f x) refl (place-passes xs d) h
-    where
-      go : (b : Bool) → f x ≡ b → (place f xs < length xs → f (getD xs (place f xs) d) ≡ true) → pick b 0 (suc (place f xs)) < length (x ∷ xs)
-          → f (getD (x ∷ xs) (pick b 0 (suc (place f xs))) d) ≡ true
-      go true e r k = e
-      go false e r k = r (omega arith)
+  place-passes (x ∷ xs) d h =
+      pick-either (λ (k : ℕ). k < length (x ∷ xs) → f (getD (x ∷ xs) k d) ≡ true) (f x) _ _ (λ e k. e) (λ e k. place-passes xs d (omega arith)) h
+
+  -- where the place is past the end, none passes
+  pub place-none : (xs : List A) → length xs ≤ place f xs → All (λ x. f x ≡ false) xs
+  place-none [] h = tt
+  place-none (x ∷ xs) h =
+      pick-either (λ (k : ℕ). length (x ∷ xs) ≤ k → All (λ y. f y ≡ false) (x ∷ xs)) (f x) _ _ (λ e k. absurd (omega arith)) (λ e k. (e, place-none xs (omega arith))) h
 
   -- the place in a list whose first part fails
   pub place-past : (xs ys : List A) → All (λ x. f x ≡ false) xs → place f (xs ++ ys) ≡ length xs + place f ys
@@ -98,10 +94,31 @@ module _ {A : Type 0} (f : A → Bool) where
   none-any [] a = refl
   none-any (x ∷ xs) a = rw (a .0) (none-any xs (a .1))
 
--- what holds of all holds of each
+-- what holds of all holds of each member, and what holds of each member holds of all
 pub all-mem : {A : Type 0} (P : A → Type 0) (x : A) (xs : List A) → List·Memᴰ x xs → All P xs → P x
 all-mem P x [] m a = absurd (List·Memᴰ·not-nil m)
 all-mem {A} P x (y ∷ xs) m a = ⊎-elim (λ e. rw e (a .0)) (λ n. all-mem P x xs n (a .1)) (List·Memᴰ·cases-cons m)
+
+pub mem-all : {A : Type 0} (P : A → Type 0) (xs : List A) → ((x : A) → List·Memᴰ x xs → P x) → All P xs
+mem-all P [] f = tt
+mem-all P (x ∷ xs) f = (f x (List·Memᴰ·head refl), mem-all P xs (λ y m. f y (List·Memᴰ·tail m)))
+
+-- the i-th is a member
+pub mem-at : {A : Type 0} (xs : List A) (i : ℕ) (d : A) → i < length xs → List·Memᴰ (getD xs i d) xs
+mem-at [] i d h = absurd (omega arith)
+mem-at (x ∷ xs) zero d h = List·Memᴰ·head refl
+mem-at (x ∷ xs) (suc i) d h = List·Memᴰ·tail (mem-at xs i d (omega arith))
+
+-- each member is the one in hand or is related to it
+pub pairs-with : {A : Type 0} (R : A → A → Type 0) → ((x y : A) → R x y → R y x) → (x : A) (xs : List A) → List·Memᴰ x xs → Pairwise R xs → All (λ y. (y ≡ x) ⊎ R x y) xs
+pairs-with R flip x [] m p = absurd (List·Memᴰ·not-nil m)
+pairs-with R flip x (y ∷ ys) m p = ⊎-elim here (λ n. there n (pairs-with R flip x ys n (p .1))) (List·Memᴰ·cases-cons m)
+  where
+    here : x ≡ y → All (λ z. (z ≡ x) ⊎ R x z) (y ∷ ys)
+    here e = (inl (sym e), all-map (R y) (λ z. (z ≡ x) ⊎ R x z) (λ z r. inr (rw e r)) ys (p .0))
+
+    there : List·Memᴰ x ys → All (λ z. (z ≡ x) ⊎ R x z) ys → All (λ z. (z ≡ x) ⊎ R x z) (y ∷ ys)
+    there n r = (inr (flip y x (all-mem (R y) x ys n (p .0))), r)
 
 -- an element and those that are left without it
 module _ {A : Type 0} (R : A → A → Type 0) (flip : (x y : A) → R x y → R y x) where

@@ -8,14 +8,14 @@ use Prim.Native.Nat.{ℕ, zero, suc, _+_, _-_, _≤_, _<_}
 use native.Mathlib.Nat.{add-zero}
 use native.Mathlib.Numerals.{add-one}
 use native.Mathlib.Omega.{arith}
-use lib.ListN.{length, take, drop, getD, take-append-drop, length-drop}
+use lib.ListN.{length, take, drop, getD, length-drop}
 use lib.Seq.{take-at, drop-at}
 use Rattle.words.specs.Word.{wordAt, endMark}
 use Rattle.freelist.specs.Segs.{Seg, Run, All, EndsBy, segAt, nextAt}
 use Rattle.freelist.specs.Check.{after, passed}
 use Rattle.freelist.specs.Place.{place}
 use Rattle.freelist.specs.Link.{startOf, lastOf, linkBytes, linkHead, removeBytes, removeHead, Stands, Spotted, Removed}
-use Rattle.freelist.proofs.Listing.{all-append, all-split}
+use Rattle.freelist.proofs.Listing.{all-append, all-sides}
 use Rattle.freelist.proofs.Links.{last-in, start-small}
 use Rattle.freelist.proofs.Places.{place-past}
 use Rattle.freelist.proofs.Runs.{passed-pop, passed-snoc, passed-split, after-suc, last-passed, length-passed, all-pop, run-start}
@@ -74,7 +74,7 @@ last-or-end n (s ∷ ss) e h = last-in n s ss e
 
 module _ (n : ℕ) (segs : List Seg) (index prev next : ℕ) (k : Stands segs index prev next) (e : All (EndsBy n) segs) where
   sides : All (EndsBy n) (take index segs) × All (EndsBy n) (drop index segs)
-  sides = all-split (EndsBy n) (take index segs) (drop index segs) (rw (take-append-drop index segs) e)
+  sides = all-sides (EndsBy n) index segs e
 
   pub prev-in : prev ≢ endMark → prev + 8 ≤ n
   prev-in h = rw (k .after) (last-or-end n (take index segs) (sides .0) (rw (k .after) at h))
@@ -102,10 +102,6 @@ unfolding removeBytes removeHead
 removed l l₁ segs head r index prev at next k run h e g =
     let b : next ≡ startOf (drop (suc index) segs) = e ∙ rw (k .before) (run-at (wordAt l) head index segs run h) in
     record { bytes = rw (← k .after, ← b) (g .0); starts = rw (← k .after, ← b) (g .1) }
-
--- the place before the first node, which needs no search
-pub stands-first : (w : ℕ → ℕ) (head : ℕ) (segs : List Seg) → Run w head segs endMark → Stands segs 0 endMark head
-stands-first w head segs r = record { after = refl; before = run-start w head segs r }
 
 -- the node at a place is the segment there
 pub run-node : (w : ℕ → ℕ) (p m index : ℕ) (segs : List Seg) (d : Seg) → Run w p segs m → index < length segs → getD segs index d ≡ segAt w (startOf (drop index segs))

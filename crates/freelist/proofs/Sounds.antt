@@ -1,9 +1,8 @@
 -- What keeps a list sound, once over the order: a node put in or taken out, writes outside the nodes' eight bytes, another top. What the order promises of the head and of the first that fits.
 -- Assumes nothing.
 use mathlib.Core.Path.{_≡_, refl, sym}
-use mathlib.Core.Logic.{inl, inr}
 use mathlib.Core.Bool.{Bool, true, false}
-use mathlib.Core.List.{List, [], _∷_, List·Memᴰ}
+use mathlib.Core.List.{List, _∷_, List·Memᴰ}
 use Prim.Native.Nat.{ℕ, suc, _+_, _≤_, _<_}
 use native.Mathlib.Omega.{arith}
 use borrow.Author.Tests.{leb-true, leb-false, le-leb}
@@ -11,6 +10,7 @@ use lib.Dec.{leb}
 use lib.ListN.{length, take, drop, getD, take-append-drop}
 use lib.Seq.{split-at}
 use Rattle.words.specs.Word.{wordAt, putWord, zeroed, endMark}
+use Rattle.words.proofs.Ranges.{parted-parts}
 use Rattle.words.proofs.Digits.{put-length, zeroed-length}
 use Rattle.freelist.specs.Segs.{Seg, All, Pairwise, Apart, InRange, EndsBy, Leads, leads, Good, Listed, endOf}
 use Rattle.freelist.specs.Place.{place, insertAt, removeAt}
@@ -18,7 +18,8 @@ use Rattle.freelist.specs.Link.{insertBytes, insertHead, removeBytes, re
 use Rattle.records.specs.declared.Order.{Order}
 use Rattle.records.specs.declared.Order.the-variants.{Optimistic, Pessimistic}
 use Rattle.freelist.proofs.Listing.{all-map, all-both}
-use Rattle.freelist.proofs.Places.{all-insert, all-remove, pairs-insert, pairs-remove, sorted-insert, first-leads, pairs-without, all-mem}
+use Rattle.freelist.proofs.Places.{all-insert, all-remove, pairs-insert, pairs-remove, sorted-insert, first-leads, pairs-without, all-mem, mem-all}
+use Rattle.freelist.proofs.Meets.{apart-sym}
 use Rattle.freelist.proofs.Checks.{leads-trans, listed-ends}
 use Rattle.freelist.proofs.Runs.{run-agree}
 use Rattle.freelist.proofs.Words.{Same, Agree, Outside, agree-words, put-words, zeroed-words}
@@ -32,21 +33,13 @@ leads-same : (o : Order) (s : Seg) → leads o s s ≡ true
 leads-same Optimistic s = omega (arith, le-leb)
 leads-same Pessimistic s = omega (arith, le-leb)
 
-apart-sym : (s t : Seg) → Apart s t → Apart t s
-apart-sym s t (inl h) = inr h
-apart-sym s t (inr h) = inl h
-
-pub all-true : {A : Type 0} (P : A → Type 0) → ((x : A) → P x) → (xs : List A) → All P xs
-all-true P f [] = tt
-all-true P f (x ∷ xs) = (f x, all-true P f xs)
-
 module _ (start top : ℕ) (o : Order) where
   pub good-insert : (q : Seg) (segs : List Seg) → InRange start top q → All (λ s. Apart s q) segs → Good start top o segs → Good start top o (insertAt (place (leads o q) segs) q segs)
   good-insert q segs h f g =
       record {
         ranged = all-insert (InRange start top) (place (leads o q) segs) q segs h (g .ranged);
         apart = pairs-insert Apart (place (leads o q) segs) q segs f (all-map (λ s. Apart s q) (Apart q) (λ s. apart-sym s q) segs f) (g .apart);
-        sorted = sorted-insert (leads o) (leads-trans o) q segs (all-true (λ s. leads o q s ≡ false → leads o s q ≡ true) (leads-total o q) segs) (g .sorted);
+        sorted = sorted-insert (leads o) (leads-trans o) q segs (mem-all (λ s. leads o q s ≡ false → leads o s q ≡ true) segs (λ s _. leads-total o q s)) (g .sorted);
       }
 
   pub good-remove : (k : ℕ) (segs : List Seg) → Good start top o segs → Good start top o (removeAt k segs)
@@ -76,7 +69,7 @@ module _ (start top : ℕ) (o : Order) where
         }
 
     pub listed-top : (top′ : ℕ) → start ≤ top′ → top′ ≤ length l → All (EndsBy top′) segs → Listed l head start top′ o segs
-    listed-top top′ = listed-kept l top′ refl (all-true (Same l l) (λ t. refl) segs)
+    listed-top top′ = listed-kept l top′ refl (mem-all (Same l l) segs (λ t _. refl))
 
     listed-words : (m : List ℕ) → length m ≡ length l → All (Same l m) segs → Listed m head start top o segs
     listed-words m e f =
@@ -148,8 +141,7 @@ module _ (start top : ℕ) where
 
 -- a segment inside one that left the list is apart from what is left
 apart-inside : (t q s : Seg) → t .offset ≤ q .offset → endOf q ≤ endOf t → Apart s t → Apart s q
-apart-inside t q s a b (inl h) = inl (omega arith)
-apart-inside t q s a b (inr h) = inr (omega arith)
+apart-inside t q s a b = parted-parts (s .offset) (endOf s) (q .offset) (endOf q) (omega arith) (omega arith) a b
 
 pub rest-apart : (k : ℕ) (segs : List Seg) (d q : Seg) → k < length segs → Pairwise Apart segs → getD segs k d .offset ≤ q .offset → endOf q ≤ endOf (getD segs k d) → All (λ s. Apart s q) (removeAt k segs)
 rest-apart k segs d q h p a b =

@@ -3,7 +3,7 @@
 -- Assumes nothing.
 use mathlib.Core.Path.{_≡_, refl, ap, sym, subst, _∙_}
 use mathlib.Core.Logic.{_≢_}
-use mathlib.Core.Bool.{Bool, true, false}
+use mathlib.Core.Bool.{Bool, true, false, false≢true}
 use mathlib.Core.List.{List}
 use Prim.Native.Nat.{ℕ, _≤_}
 use native.Mathlib.Omega.{arith}
@@ -12,6 +12,7 @@ use lib.ListN.{length}
 use Rattle.words.specs.Word.{wordAt, sizeHalf, endMark}
 use Rattle.records.specs.Pick.{pick}
 use Rattle.records.specs.Setup.{limit}
+use Rattle.records.proofs.Facts.{pick-either}
 use Rattle.records.specs.Head.{headSound}
 use Rattle.records.specs.declared.Freelist.{Freelist}
 use Rattle.records.specs.declared.Freelist.the-variants.{None, Ordered}
@@ -22,6 +23,7 @@ use Rattle.freelist.specs.Segs.{Seg, Run, All, Pairwise, Apart, InRange}
 use Rattle.freelist.specs.Check.{after, passed, Walked}
 use Rattle.freelist.specs.Sound.{firstOf, sound, free, surveyed}
 use Rattle.freelist.specs.Split.{rangedRun, walkFrom, apartb}
+use Rattle.freelist.specs.declared.Finding.{Finding}
 use Rattle.freelist.specs.declared.Finding.the-variants.{Sound, Unsound}
 use Rattle.freelist.proofs.Listing.{all-map}
 use Rattle.freelist.proofs.Runs.{run-passed, length-passed}
@@ -101,16 +103,11 @@ module _ (s : Shape) (h : Header) (l : List ℕ) where
   -- what a caller learns from the answer
   pub found-sound : (n : ℕ) → surveyed s h l ≡ Sound n → (sound s h l ≡ true) × (n ≡ length (free s h l))
   unfolding surveyed
-  found-sound n e = go (sound s h l) refl e
-    where
-      go : (b : Bool) → sound s h l ≡ b → pick b (Sound (length (free s h l))) Unsound ≡ Sound n → (sound s h l ≡ true) × (n ≡ length (free s h l))
-      go true p q = (p, cc)
-      go false p q = let z : _≡_ {A = ℕ} 0 1 = cc in absurd (omega arith)
+  found-sound n =
+      pick-either (λ (x : Finding). x ≡ Sound n → (sound s h l ≡ true) × (n ≡ length (free s h l))) (sound s h l) _ _ (λ p q. (p, cc))
+      (λ p q. absurd (false≢true cc))
 
   pub found-unsound : surveyed s h l ≡ Unsound → sound s h l ≡ false
   unfolding surveyed
-  found-unsound e = go (sound s h l) refl e
-    where
-      go : (b : Bool) → sound s h l ≡ b → pick b (Sound (length (free s h l))) Unsound ≡ Unsound → sound s h l ≡ false
-      go true p q = let z : _≡_ {A = ℕ} 0 1 = cc in absurd (omega arith)
-      go false p q = p
+  found-unsound =
+      pick-either (λ (x : Finding). x ≡ Unsound → sound s h l ≡ false) (sound s h l) _ _ (λ p q. absurd (false≢true cc)) (λ p q. p)

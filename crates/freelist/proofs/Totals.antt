@@ -2,7 +2,7 @@
 -- The segments are sorted by address, by `sorted-insert`; in a sorted list the sum is a plain induction.
 -- Assumes nothing.
 use mathlib.Core.Path.{_≡_, refl}
-use mathlib.Core.Logic.{_⊎_, inl, inr}
+use mathlib.Core.Logic.{inl, inr}
 use mathlib.Core.Bool.{Bool, true, false}
 use mathlib.Core.List.{List, [], _∷_}
 use Prim.Native.Nat.{ℕ, zero, suc, _+_, _*_, _/_, _≤_}
@@ -10,7 +10,8 @@ use native.Mathlib.Omega.{arith}
 use borrow.Author.Tests.{leb-true, leb-false, le-leb}
 use lib.Dec.{leb}
 use lib.ListN.{length}
-use Rattle.freelist.specs.Segs.{Seg, All, Pairwise, Apart, InRange}
+use Rattle.words.proofs.Ranges.{Parted}
+use Rattle.freelist.specs.Segs.{Seg, All, Pairwise, Apart, InRange, endOf}
 use Rattle.freelist.specs.Link.{sizes}
 use Rattle.freelist.specs.Place.{place, insertAt}
 use Rattle.freelist.proofs.Listing.{all-map, all-both, pairs-map}
@@ -23,7 +24,7 @@ module _ (room : Seg → ℕ) where
   total (s ∷ ss) = room s + total ss
 
   abbrev pub Clear : Seg → Seg → Type 0
-  Clear s t = (s .offset + room s ≤ t .offset) ⊎ (t .offset + room t ≤ s .offset)
+  Clear s t = Parted (s .offset) (s .offset + room s) (t .offset) (t .offset + room t)
 
   abbrev pub Within : ℕ → ℕ → Seg → Type 0
   Within lo hi s = (lo ≤ s .offset) × (s .offset + room s ≤ hi)
@@ -80,6 +81,16 @@ module _ (room : Seg → ℕ) where
   total-within lo hi ss h p a =
       omega (arith, total-sort ss, total-sorted lo hi (sort ss) h (sorted-sort ss p) (all-sort (Within lo hi) ss a))
 
+  -- segments of an arena that are apart, where each has so many bytes before the next
+  pub total-apart : (start top lo hi : ℕ) (ss : List Seg) → lo ≤ hi → ((s t : Seg) → InRange start top s → InRange start top t → endOf s ≤ t .offset → s .offset + room s ≤ t .offset)
+      → ((s : Seg) → InRange start top s → Within lo hi s) → All (InRange start top) ss → Pairwise Apart ss → lo + total ss ≤ hi
+  total-apart start top lo hi ss h next in-room a p =
+      total-within lo hi ss h (pairs-map Apart Clear (InRange start top) each ss a p) (all-map (InRange start top) (Within lo hi) in-room ss a)
+    where
+      each : (s t : Seg) → InRange start top s → InRange start top t → Apart s t → Clear s t
+      each s t q r (inl k) = inl (next s t q r k)
+      each s t q r (inr k) = inr (next t s r q k)
+
 -- a node stands at a multiple of 8 and has 9 bytes at least, so 16 bytes from its offset on are its own
 sixteen : Seg → ℕ
 sixteen s = 16
@@ -89,19 +100,12 @@ unfolding sixteen
 sixteens [] = refl
 sixteens (s ∷ ss) = omega (arith, sixteens ss)
 
-sixteen-apart : (start top : ℕ) (s t : Seg) → InRange start top s → InRange start top t → Apart s t → Clear sixteen s t
-unfolding sixteen
-sixteen-apart start top s t a b (inl h) = inl (omega arith)
-sixteen-apart start top s t a b (inr h) = inr (omega arith)
-
 -- an arena whose data starts past its first byte has at most top / 16 nodes
 pub few : (start top : ℕ) (ss : List Seg) → 1 ≤ start → All (InRange start top) ss → Pairwise Apart ss → length ss ≤ top / 16
 unfolding sixteen
 few start top [] h a p = omega arith
 few start top (s ∷ ss) h a p =
-    let f = pairs-map Apart (Clear sixteen) (InRange start top) (sixteen-apart start top) (s ∷ ss) a p in
-    let w = all-map (InRange start top) (Within sixteen 8 (top + 7)) (λ t r. (omega arith, omega arith)) (s ∷ ss) a in
-    omega (arith, sixteens (s ∷ ss), total-within sixteen 8 (top + 7) (s ∷ ss) (omega (arith, a .0)) f w)
+    omega (arith, sixteens (s ∷ ss), total-apart sixteen start top 8 (top + 7) (s ∷ ss) (omega (arith, a .0)) (λ t u q r k. omega arith) (λ t r. (omega arith, omega arith)) a p)
 
 -- the bytes of good segments together
 whole : Seg → ℕ
@@ -112,14 +116,7 @@ unfolding whole
 sizes-whole [] = omega arith
 sizes-whole (s ∷ ss) = omega (arith, sizes-whole ss)
 
-whole-apart : (start top : ℕ) (s t : Seg) → InRange start top s → InRange start top t → Apart s t → Clear whole s t
-unfolding whole
-whole-apart start top s t a b (inl h) = inl (omega arith)
-whole-apart start top s t a b (inr h) = inr (omega arith)
-
 pub sizes-within : (start top : ℕ) (ss : List Seg) → All (InRange start top) ss → Pairwise Apart ss → sizes ss ≤ top
 unfolding whole
 sizes-within start top ss a p =
-    let f = pairs-map Apart (Clear whole) (InRange start top) (whole-apart start top) ss a p in
-    let w = all-map (InRange start top) (Within whole 0 top) (λ t r. (omega arith, omega arith)) ss a in
-    omega (arith, sizes-whole ss, total-within whole 0 top ss (omega arith) f w)
+    omega (arith, sizes-whole ss, total-apart whole start top 0 top ss (omega arith) (λ t u q r k. omega arith) (λ t r. (omega arith, omega arith)) a p)

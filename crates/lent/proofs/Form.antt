@@ -4,7 +4,7 @@
 --     Says, Core       what the core ensures of its reply, and its contract.        ts are its parameters after the header, and js says which last values it speaks of
 --     Tells, Thin      what the function ensures of its answer, and its contract: at exit the header has a last value, and the rest has what the core says of it
 --     Claim            what the core says of a reply is what the function tells of the answer and of the header that it leaves
--- Assumes nothing: these are definitions.
+-- These are definitions. Assumes nothing.
 use Prim.Native.Nat.{ℕ, suc}
 use mathlib.Core.List.{List, [], _∷_}
 use lib.ListN.{length}

@@ -2,7 +2,7 @@
 -- Assumes nothing.
 use Prim.Native.Nat.{ℕ, suc, _-_, _<_, _^_}
 use mathlib.Core.Path.{_≡_, refl, ap, _∙_}
-use mathlib.Core.Bool.{true, false}
+use mathlib.Core.Bool.{true, false, false≢true}
 use native.Mathlib.Omega.{arith}
 use borrow.Author.Tests.{ltb-true, le-ltb}
 use lib.IntN.{ℤ, pos, negsuc, _-ℤ_}
@@ -29,7 +29,7 @@ below-of (negsuc k) f e = record { k = k; is = refl; small = f .sfits }
 
 above-of : (z : ℤ) → SFits w64 z → ltZ z (pos 0) ≡ false → Above z
 above-of (pos k) f e = record { k = k; is = refl; small = f .sfits }
-above-of (negsuc k) f e = let no : _≡_ {A = ℕ} 0 1 = cc in absurd (omega arith)
+above-of (negsuc k) f e = absurd (false≢true cc)
 
 -- -1 less a number below 0
 minus : (k : ℕ) → negsuc 0 -ℤ negsuc k ≡ pos k

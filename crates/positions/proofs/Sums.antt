@@ -2,6 +2,7 @@
 -- Assumes nothing.
 use Prim.Native.Nat.{ℕ, suc, _+_, _-_, _≤_, _<_, _^_, max}
 use mathlib.Core.Path.{_≡_, refl, ap, _∙_}
+use mathlib.Core.Bool.{false≢true}
 use native.Mathlib.Omega.{arith}
 use borrow.Author.Tests.{le-ltb, lt-ltb, le-leb, lt-leb, eq-eqb, ne-eqb}
 use lib.IntN.{ℤ, pos, negsuc, subℕ, _+ℤ_}
@@ -14,7 +15,7 @@ use Rattle.positions.specs.declared.Move.the-variants.{Up, Down}
 -- a move up is that by a number from 0 on
 up-is : (d : ℤ) (k : ℕ) → moveOf d ≡ Up k → d ≡ pos k
 up-is (pos n) k e = cc
-up-is (negsuc n) k e = let z : _≡_ {A = ℕ} 0 1 = cc in absurd (omega arith)
+up-is (negsuc n) k e = absurd (false≢true cc)
 
 -- a move up by an i64 leaves room for a top in a u64
 pub up-small : (d : ℤ) (k : ℕ) → SFits w64 d → moveOf d ≡ Up k → k < 2 ^ 63
@@ -22,7 +23,7 @@ up-small d k f e = (rw (up-is d k e) at f) .sfits
 
 -- a move down takes its distance from the top
 down-is : (top : ℕ) (d : ℤ) (k : ℕ) → moveOf d ≡ Down k → pos top +ℤ d ≡ subℕ top k
-down-is top (pos n) k e = let z : _≡_ {A = ℕ} 0 1 = cc in absurd (omega arith)
+down-is top (pos n) k e = absurd (false≢true cc)
 down-is top (negsuc n) k e =
     let same : n + 1 ≡ k = cc in
     let next : suc n ≡ k = omega arith in

@@ -1,21 +1,14 @@
 -- A rewind from a top between the data offset and the capacity leads to one between them.
 -- Assumes nothing.
 use Prim.Native.Nat.{ℕ, _≤_}
-use mathlib.Core.Path.{_≡_, refl}
-use mathlib.Core.Bool.{Bool, true, false}
 use native.Mathlib.Omega.{arith}
 use borrow.Author.Tests.{leb-false}
 use lib.Dec.{leb, eqb}
 use lib.IntN.{ℤ, pos, negsuc, _+ℤ_}
-use Rattle.records.specs.Pick.{pick}
+use Rattle.records.proofs.Facts.{pick-either}
 use Rattle.records.specs.declared.Position.{Position}
 use Rattle.records.specs.declared.Position.the-variants.{Start, Current, End}
 use Rattle.positions.specs.NewTop.{exactTop, newTop}
-
--- what holds of both choices, each where its test says so, holds of the choice
-picked : {x y : ℕ} (P : ℕ → Type 0) (b : Bool) → (b ≡ true → P x) → (b ≡ false → P y) → P (pick b x y)
-picked P true a b = a refl
-picked P false a b = b refl
 
 module _ (start cap top : ℕ) (low : start ≤ top) (high : top ≤ cap) where
   abbrev Between : ℕ → Type 0
@@ -25,9 +18,9 @@ module _ (start cap top : ℕ) (low : start ≤ top) (high : top ≤ cap) where
   pub exact-between : (z : ℤ) → (start ≤ exactTop start cap top z) × (exactTop start cap top z ≤ cap)
   unfolding exactTop
   exact-between (pos n) =
-      picked Between (leb cap n)
+      pick-either Between (leb cap n) _ _
       (λ _. omega arith)
-      (λ q. let less = leb-false cap n q in picked Between (eqb n 0) (λ _. omega arith) (λ _. omega arith))
+      (λ q. let less = leb-false cap n q in pick-either Between (eqb n 0) _ _ (λ _. omega arith) (λ _. omega arith))
   exact-between (negsuc n) = omega arith
 
   -- and so does that for any position

@@ -1,26 +1,22 @@
 -- A held block's bytes lie in one range, its hull: from its memory offset up to the end of its memory or of its usable part, whichever is later.
 -- That two hulls, or a hull and a segment, are apart is said by their ends, so that it is arithmetic; here it is turned into bytes. Assumes nothing.
 use Prim.Native.Nat.{ℕ, _+_, _≤_, _<_, max}
-use mathlib.Core.Logic.{_⊎_, inl, inr}
+use mathlib.Core.Logic.{inl, inr}
 use mathlib.Core.List.{List}
 use native.Mathlib.Omega.{arith}
+use Rattle.words.proofs.Ranges.{Parted, parted-parts, parted-none}
+use Rattle.words.proofs.Stills.{Still}
 use Rattle.records.specs.declared.Block.{Block}
 use Rattle.freelist.specs.Segs.{Seg, Covers, All, endOf}
 use Rattle.freelist.proofs.Listing.{all-map}
+use Rattle.freelist.proofs.Meets.{OffSeg}
 use Rattle.promise.specs.Runs.{Holds}
 
 -- the end of a block's hull, not included
 abbrev pub hullEnd : Block → ℕ
 hullEnd b = max (b .«memory_offset» + b .«memory_size») (b .«usable_offset» + b .«usable_size»)
 
--- the bytes from a up to e and those from c up to d: one range ends at or before the other's start
-abbrev pub Parted : ℕ → ℕ → ℕ → ℕ → Type 0
-Parted a e c d = (e ≤ c) ⊎ (d ≤ a)
-
--- a segment, or a block, has none of the bytes from a up to e
-abbrev pub OffSeg : ℕ → ℕ → Seg → Type 0
-OffSeg a e g = Parted a e (g .offset) (endOf g)
-
+-- a block has none of the bytes from a up to e
 abbrev pub OffBlock : ℕ → ℕ → Block → Type 0
 OffBlock a e b = Parted a e (b .«memory_offset») (hullEnd b)
 
@@ -31,6 +27,10 @@ Clear b g = OffSeg (b .«memory_offset») (hullEnd b) g
 abbrev pub Asunder : Block → Block → Type 0
 Asunder b c = OffBlock (b .«memory_offset») (hullEnd b) c
 
+-- a block's bytes are in m what they are in l
+abbrev pub Untouched : Block → List ℕ → List ℕ → Type 0
+Untouched b l m = Still (b .«memory_offset») (hullEnd b) l m
+
 -- a block whose hull lies between start and top
 pub record Placed (start top : ℕ) (b : Block) : Type 0 where
   pub some : 1 ≤ b .«memory_size»
@@ -38,31 +38,13 @@ pub record Placed (start top : ℕ) (b : Block) : Type 0 where
   pub usable : b .«memory_offset» ≤ b .«usable_offset»
   pub below : hullEnd b ≤ top
 
-pub parted-flip : (a e c d : ℕ) → Parted a e c d → Parted c d a e
-parted-flip a e c d (inl x) = inr x
-parted-flip a e c d (inr x) = inl x
-
--- what has none of some bytes that end at the top, and does not pass the top itself, ends at or below their start
-pub parted-below : (a e c d top : ℕ) → d ≤ top → top ≤ e → a < e → c < d → Parted a e c d → d ≤ a
-parted-below a e c d top h k m n (inl x) = absurd (omega arith)
-parted-below a e c d top h k m n (inr x) = x
-
 -- what has none of some bytes has none of a part of them
 module _ (a e a′ e′ : ℕ) (h : a ≤ a′) (k : e′ ≤ e) where
-  pub part-off : (c d : ℕ) → Parted a e c d → Parted a′ e′ c d
-  part-off c d (inl x) = inl (omega arith)
-  part-off c d (inr x) = inr (omega arith)
-
   pub segs-off : (segs : List Seg) → All (OffSeg a e) segs → All (OffSeg a′ e′) segs
-  segs-off = all-map (OffSeg a e) (OffSeg a′ e′) (λ g. part-off (g .offset) (endOf g))
+  segs-off = all-map (OffSeg a e) (OffSeg a′ e′) (λ g. parted-parts a′ e′ (g .offset) (endOf g) h k (omega arith) (omega arith))
 
   pub blocks-off : (bs : List Block) → All (OffBlock a e) bs → All (OffBlock a′ e′) bs
-  blocks-off = all-map (OffBlock a e) (OffBlock a′ e′) (λ b. part-off (b .«memory_offset») (hullEnd b))
-
--- no byte is in two ranges that are apart
-parted-none : (a e c d x : ℕ) → Parted a e c d → (a ≤ x) × (x < e) → (c ≤ x) × (x < d) → ⊥
-parted-none a e c d x (inl h) m n = omega arith
-parted-none a e c d x (inr h) m n = omega arith
+  blocks-off = all-map (OffBlock a e) (OffBlock a′ e′) (λ b. parted-parts a′ e′ (b .«memory_offset») (hullEnd b) h k (omega arith) (omega arith))
 
 module _ {start top : ℕ} where
   -- a block's bytes lie in its hull

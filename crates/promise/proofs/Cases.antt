@@ -1,10 +1,8 @@
--- What a call leaves, and how its definition is taken apart: a choice by a test has what both its branches have.
+-- What a call leaves: the invariant, and the bytes of every block that is held before and after.
 -- Assumes nothing.
 use Prim.Native.Nat.{ℕ}
-use mathlib.Core.Path.{_≡_, refl}
-use mathlib.Core.Bool.{Bool, true, false}
+use mathlib.Core.Path.{refl}
 use mathlib.Core.List.{List, List·Memᴰ}
-use Rattle.records.specs.Pick.{pick}
 use Rattle.records.specs.Answer.{Outcome, Said, refused, leaves, refuses}
 use Rattle.records.specs.declared.Shape.{Shape}
 use Rattle.records.specs.declared.Header.{Header}
@@ -13,13 +11,8 @@ use Rattle.freelist.specs.Segs.{Seg}
 use Rattle.promise.specs.declared.Call.{Call}
 use Rattle.promise.specs.declared.Call.the-variants.{Take, Give, Discard, Rewind, SetMinimum, AddDiscarded}
 use Rattle.promise.specs.Runs.{State, heldAfter}
-use Rattle.promise.proofs.Stills.{Untouched}
+use Rattle.promise.proofs.Blocks.{Untouched}
 use Rattle.promise.proofs.Holding.{Kept, Onward, keeps}
-
--- what holds of both branches, each with what the test says there, holds of the choice
-pub pick-either : {A : Type 0} (P : A → Type 0) (t : Bool) (a b : A) → (t ≡ true → P a) → (t ≡ false → P b) → P (pick t a b)
-pick-either P true a b f g = f refl
-pick-either P false a b f g = g refl
 
 -- this outcome of a call keeps the invariant, and the bytes of every block that is held before and after
 pub record Left (s : Shape) (st : State) (c : Call) (o : Outcome) : Type 0 where

@@ -3,12 +3,13 @@
 -- Assumes nothing.
 use Prim.Native.Nat.{ℕ, _+_, _≤_}
 use mathlib.Core.Path.{_≡_, refl, ap}
-use mathlib.Core.Logic.{_⊎_, inl, inr, ⊎-elim}
+use mathlib.Core.Logic.{_⊎_, ⊎-elim}
 use mathlib.Core.Bool.{Bool, true, false}
 use mathlib.Core.List.{List, List·Memᴰ}
 use native.Mathlib.Omega.{arith}
 use borrow.Author.Tests.{le-ltb, eqb-true, eqb-false, not-true}
 use lib.Dec.{eqb}
+use Rattle.words.proofs.Ranges.{Parted, parted-flip, parted-parts, parted-below}
 use Rattle.records.specs.Pick.{pick}
 use Rattle.records.specs.Answer.{Outcome, leaves, givenBack}
 use Rattle.records.specs.Rule.{segmentOf}
@@ -21,30 +22,22 @@ use Rattle.records.specs.declared.Header.{Header}
 use Rattle.records.specs.declared.Block.{Block}
 use Rattle.records.specs.declared.Segment.{Segment}
 use Rattle.records.specs.declared.Segment.the-variants.{At, Refused}
+use Rattle.records.proofs.Facts.{pick-either}
+use Rattle.records.proofs.Rules.{Cut, cut-of}
 use Rattle.freelist.specs.Segs.{Seg, All, InRange, EndsBy, Apart, leads, endOf}
 use Rattle.freelist.specs.Place.{place, insertAt}
 use Rattle.freelist.specs.Link.{insertBytes, insertHead}
-use Rattle.freelist.specs.Check.{shares, meets}
 use Rattle.freelist.specs.Sound.{firstOf}
 use Rattle.freelist.proofs.Listing.{all-map, all-both}
-use Rattle.freelist.proofs.Places.{none-any}
+use Rattle.freelist.proofs.Places.{pairs-with}
+use Rattle.freelist.proofs.Meets.{off-meets}
 use Rattle.arena.specs.Give.{putIn, belowTop, givingBack}
 use Rattle.promise.specs.declared.Call.the-variants.{Give}
 use Rattle.promise.specs.Runs.{State, freeIn, only, elsewhere}
-use Rattle.promise.proofs.Members.{only-all, only-passes, pairs-with}
-use Rattle.promise.proofs.Blocks.{hullEnd, Parted, OffSeg, Placed, Asunder, Clear, parted-flip, parted-below, part-off}
+use Rattle.promise.proofs.Members.{only-all, only-passes}
+use Rattle.promise.proofs.Blocks.{hullEnd, Placed, Asunder, Clear}
 use Rattle.promise.proofs.Holding.{Holding, Onward, Kept, keeps, hold-head, hold-ranged, held-placed, held-clear, hold-only, hold-top, hold-counters, hold-insert}
-use Rattle.promise.proofs.Cuts.{Cut, cut-of}
-use Rattle.promise.proofs.Cases.{Left, pick-either, left-onward, left-quiet}
-
--- a part of a range that no segment has a byte of meets none
-off-meets : (a e from to : ℕ) (segs : List Seg) → a ≤ from → to ≤ e → All (OffSeg a e) segs → meets segs from to ≡ false
-off-meets a e from to segs low high off =
-    none-any (λ g. shares (g .offset) (endOf g) from to) segs (all-map (OffSeg a e) (λ g. shares (g .offset) (endOf g) from to ≡ false) each segs off)
-  where
-    each : (g : Seg) → OffSeg a e g → shares (g .offset) (endOf g) from to ≡ false
-    each g (inl h) = omega (arith, le-ltb)
-    each g (inr h) = omega (arith, le-ltb)
+use Rattle.promise.proofs.Cases.{Left, left-onward, left-quiet}
 
 -- a block that starts elsewhere is another one
 elsewhere-other : (b c : Block) → elsewhere (b .«memory_offset») c ≡ true → c ≡ b → ⊥
@@ -81,7 +74,7 @@ module _ {s : Shape} {h : Header} {l : List ℕ} {segs : List Seg} {held : List 
   -- below it: a segment inside the block's memory
   module _ (o : Order) (policy : s .freelist ≡ Ordered o) (q : Seg) (c : Cut (b .«memory_offset») (b .«memory_size») (q .offset) (q .size)) where
     inside : (x y : ℕ) → Parted (b .«memory_offset») (hullEnd b) x y → Parted x y (q .offset) (endOf q)
-    inside x y e = parted-flip (q .offset) (endOf q) x y (part-off (b .«memory_offset») (hullEnd b) (q .offset) (endOf q) (c .low) (omega (arith, c .ends)) x y e)
+    inside x y e = parted-parts x y (q .offset) (endOf q) (omega arith) (omega arith) (c .low) (omega (arith, c .ends)) (parted-flip (b .«memory_offset») (hullEnd b) x y e)
 
     returned : Onward s l others (losing (withFirst h (insertHead (firstOf h) segs (place (leads o q) segs) q)) 8) (insertBytes l segs (place (leads o q) segs) q) (insertAt (place (leads o q) segs) q segs) others
     returned =

@@ -3,6 +3,7 @@
 use Prim.Native.Nat.{ℕ, _+_, _-_, _≤_, _<_}
 use mathlib.Core.Path.{_≡_, refl, subst⁻¹}
 use mathlib.Core.Logic.{_↔_}
+use mathlib.Core.Bool.{true, false≢true}
 use mathlib.Core.List.{List, List·Memᴰ}
 use native.Mathlib.Omega.{arith}
 use borrow.Author.Tests.{lt-leb}
@@ -17,27 +18,19 @@ use Rattle.records.specs.declared.Shape.{Shape}
 use Rattle.records.specs.declared.Header.{Header}
 use Rattle.records.specs.declared.Block.{Block}
 use Rattle.records.specs.declared.Request.{Request}
-use Rattle.records.specs.declared.Request.the-variants.{Bytes, Typed, Aligned}
 use Rattle.records.specs.declared.Segment.{Segment}
 use Rattle.records.specs.declared.Segment.the-variants.{At, Refused}
-use Rattle.requests.specs.Request.{plain, need, listBlock}
+use Rattle.requests.specs.Request.{wellFormed, plain, need, listBlock}
+use Rattle.requests.proofs.Plans.{plain-formed, block-in-list}
 use Rattle.freelist.specs.Segs.{Seg, All}
 use Rattle.freelist.specs.Place.{removeAt}
 use Rattle.freelist.specs.Link.{removeBytes, removeHead}
 use Rattle.freelist.specs.Sound.{firstOf}
-use Rattle.freelist.proofs.Places.{all-mem}
+use Rattle.freelist.proofs.Places.{all-mem, mem-at}
 use Rattle.arena.specs.Take.{found, serveFrom, nowhere, serve, pastTop, taking}
 use Rattle.promise.specs.Runs.{State, freeIn, Best, PastTop}
-use Rattle.promise.proofs.Members.{mem-at}
 use Rattle.promise.proofs.Holding.{Kept, hold-head, hold-good}
 use Rattle.promise.proofs.Looks.{Looked, past-each}
-
--- a block of a segment starts where the segment does
-list-starts : (p m : ℕ) (r : Request) → listBlock p m r .«memory_offset» ≡ p
-unfolding listBlock
-list-starts p m (Bytes n) = refl
-list-starts p m (Typed size align) = refl
-list-starts p m (Aligned size align extra) = refl
 
 -- an outcome grants a block; some segment fits a request; a best segment that fits was taken for a block: as the promise has it
 abbrev pub Grants : Outcome → Type 0
@@ -56,17 +49,21 @@ record GrantsAt (at : ℕ) (o : Outcome) : Type 0 where
   is : o .says ≡ granted block
   starts : block .«memory_offset» ≡ at
 
-serve-grants : (h : Header) (l : List ℕ) (segs : List Seg) (o : Order) (r : Request) (i : ℕ) → GrantsAt (getD segs i nowhere .offset) (serve h l segs o r i)
-unfolding serve serveFrom
-serve-grants h l segs o r i = go (segmentOf (h .«min_segment_size») (getD segs i nowhere .offset + 8 + need r) (getD segs i nowhere .size - need r))
-  where
-    go : (x : Segment) → GrantsAt (getD segs i nowhere .offset) (serveFrom h (removeBytes l segs i) (removeHead (firstOf h) segs i) (removeAt i segs) o r (getD segs i nowhere) x)
-    go Refused = record { block = listBlock (getD segs i nowhere .offset) (getD segs i nowhere .size) r; is = refl; starts = list-starts _ _ r }
-    go (At p n) = record { block = listBlock (getD segs i nowhere .offset) (need r) r; is = refl; starts = list-starts _ _ r }
+module _ (h : Header) (l : List ℕ) (segs : List Seg) (o : Order) (r : Request) (i : ℕ) (formed : wellFormed r ≡ true) (fits : need r ≤ getD segs i nowhere .size) where
+  abbrev g : Seg
+  g = getD segs i nowhere
+
+  serve-grants : GrantsAt (g .offset) (serve h l segs o r i)
+  unfolding serve serveFrom
+  serve-grants = go (segmentOf (h .«min_segment_size») (g .offset + 8 + need r) (g .size - need r))
+    where
+      go : (x : Segment) → GrantsAt (g .offset) (serveFrom h (removeBytes l segs i) (removeHead (firstOf h) segs i) (removeAt i segs) o r g x)
+      go Refused = record { block = listBlock (g .offset) (g .size) r; is = refl; starts = block-in-list _ _ r formed fits .starts }
+      go (At p n) = record { block = listBlock (g .offset) (need r) r; is = refl; starts = block-in-list _ (need r) r formed (omega arith) .starts }
 
 -- a refusal grants nothing
 refused-grants : (n : ℕ) (carried : List ℕ) (b : Block) → refused n carried ≡ granted b → ⊥
-refused-grants n carried b e = let z : _≡_ {A = ℕ} 0 1 = cc in omega arith
+refused-grants n carried b e = false≢true cc
 
 module _ {s : Shape} {st : State} (k : Kept s st) (r : Request) (past : PastTop s st r) where
   -- no test before the list's refuses the request or meets it
@@ -82,6 +79,10 @@ module _ {s : Shape} {st : State} (k : Kept s st) (r : Request) (past : PastTop 
         k .holding .sounds,
       )
 
+  -- a segment that has room for the request serves it
+  serves : (o : Order) (i : ℕ) → need (plain r) ≤ getD (freeIn s st) i nowhere .size → GrantsAt (getD (freeIn s st) i nowhere .offset) (serve (st .header) (st .bytes) (freeIn s st) o (plain r) i)
+  serves o i = serve-grants (st .header) (st .bytes) (freeIn s st) o (plain r) i (plain-formed r (past .formed))
+
   -- what holds of each way to go past the top holds of the request
   past-one : (P : Outcome → Type 0)
       → ((carried : List ℕ) → s .freelist ≡ None → P (refuses 9 carried (st .header) (st .bytes)))
@@ -94,7 +95,7 @@ module _ {s : Shape} {st : State} (k : Kept s st) (r : Request) (past : PastTop 
   grants-exactly ordered =
       past-one (λ (x : Outcome). Grants x ↔ Fits s st r) (λ carried none. absurd (ordered none))
       (λ carried small. (λ b. absurd (refused-grants _ _ (b .0) (b .1)), λ g. absurd (too-small g (all-mem (λ (f : Seg). f .size < need (plain r)) (g .0) (freeIn s st) (g .1) small))))
-      (λ o policy i x. (λ b. (getD (freeIn s st) i nowhere, mem-at (freeIn s st) i nowhere (x .0), x .1), λ g. let y = serve-grants (st .header) (st .bytes) (freeIn s st) o (plain r) i in (y .block, y .is)))
+      (λ o policy i x. (λ b. (getD (freeIn s st) i nowhere, mem-at (freeIn s st) i nowhere (x .0), x .1), λ g. let y = serves o i (x .1) in (y .block, y .is)))
     where
       too-small : (g : Fits s st r) → g .0 .size < need (plain r) → ⊥
       too-small g less = omega arith
@@ -104,6 +105,6 @@ module _ {s : Shape} {st : State} (k : Kept s st) (r : Request) (past : PastTop 
       past-one (λ (x : Outcome). x .says ≡ granted b → Chosen s st r b) (λ carried none e. absurd (refused-grants _ _ b e)) (λ carried small e. absurd (refused-grants _ _ b e))
       (λ o policy i x e.
       let g = getD (freeIn s st) i nowhere in
-      let y = serve-grants (st .header) (st .bytes) (freeIn s st) o (plain r) i in
+      let y = serves o i (x .1) in
       let same : y .block ≡ b = cc in
       (g, mem-at (freeIn s st) i nowhere (x .0), rw same at (y .starts), x .1, subst⁻¹ (λ (f : Freelist). Best f (need (plain r)) g (freeIn s st)) policy (x .2)))

@@ -2,33 +2,35 @@
 -- and from every free segment. It is taken through the small changes that every call is made of: blocks let go, the top or a counter moved, bytes
 -- changed that are no node's, the list emptied, a segment put in or taken out, a block granted in a range that is nobody's. Where one of these changes
 -- bytes, none of a held block's is among them. Assumes nothing.
-use Prim.Native.Nat.{ℕ, _≤_, _<_}
+use Prim.Native.Nat.{ℕ, _+_, _≤_, _<_}
 use mathlib.Core.Path.{_≡_, refl, sym, subst, _∙_}
-use mathlib.Core.Logic.{inl, inr}
 use mathlib.Core.Bool.{Bool, true, false}
 use mathlib.Core.List.{List, [], _∷_, List·Memᴰ}
 use native.Mathlib.Omega.{arith}
 use lib.ListN.{length}
 use Rattle.words.specs.Word.{zeroed, nodeWord, endMark}
+use Rattle.words.proofs.Ranges.{parted-flip, parted-parts}
+use Rattle.words.proofs.Stills.{zeroed-still}
 use Rattle.records.specs.Head.{Head}
 use Rattle.records.specs.declared.Order.{Order}
 use Rattle.records.specs.declared.Freelist.the-variants.{Ordered}
 use Rattle.records.specs.declared.Shape.{Shape}
 use Rattle.records.specs.declared.Header.{Header}
 use Rattle.records.specs.declared.Block.{Block}
-use Rattle.freelist.specs.Segs.{Seg, All, Pairwise, InRange, EndsBy, Apart, Good, leads}
+use Rattle.freelist.specs.Segs.{Seg, All, Pairwise, InRange, EndsBy, Apart, Good, leads, endOf}
 use Rattle.freelist.specs.Place.{place, insertAt, removeAt}
 use Rattle.freelist.specs.Link.{insertBytes, insertHead, removeBytes, removeHead}
 use Rattle.freelist.specs.Sound.{firstOf, sound, free}
 use Rattle.freelist.proofs.Listing.{all-map, all-both}
 use Rattle.freelist.proofs.Places.{all-insert, all-remove, all-mem}
+use Rattle.freelist.proofs.Meets.{OffSeg}
 use Rattle.freelist.proofs.Words.{Agree, Outside}
+use Rattle.freelist.proofs.Stills.{insert-still, remove-still}
 use Rattle.freelist.proofs.Arenas.{sound-head, sound-listed, sound-ranged, sound-apart, sound-below, sound-ends}
 use Rattle.freelist.proofs.Moves.{sound-empty, sound-top, sound-agree, sound-zeroed, sound-insert, sound-remove}
 use Rattle.promise.specs.Runs.{State, freeIn, only}
 use Rattle.promise.proofs.Members.{only-all, only-pairs}
-use Rattle.promise.proofs.Blocks.{hullEnd, OffSeg, OffBlock, Placed, Asunder, Clear, parted-flip, placed-under, part-off, segs-off, blocks-off}
-use Rattle.promise.proofs.Stills.{Untouched, zeroed-still, insert-still, remove-still}
+use Rattle.promise.proofs.Blocks.{hullEnd, OffBlock, Placed, Asunder, Clear, Untouched, placed-under, segs-off, blocks-off}
 
 -- with this header and these bytes the arena is sound and has these free segments, and these blocks are held
 pub record Holding (s : Shape) (h : Header) (l : List ℕ) (segs : List Seg) (held : List Block) : Type 0 where
@@ -127,7 +129,7 @@ module _ {s : Shape} {h : Header} {l : List ℕ} {segs : List Seg} {held : List 
       → Onward s l held h (zeroed l x y) segs (b ∷ held)
   hold-granted a e x y b p low high from order to off others =
       let fits : y ≤ length l = omega (arith, hold-head) in
-      let n = sound-zeroed s h l (k .sounds) x y order fits (rw (k .lists) (all-map (OffSeg x y) (Outside x y) eight segs (segs-off a e x y from to segs off))) in
+      let n = sound-zeroed s h l (k .sounds) x y order fits (rw (k .lists) (all-map (OffSeg a e) (Outside x y) eight segs off)) in
       record {
         holding =
             record {
@@ -138,12 +140,11 @@ module _ {s : Shape} {h : Header} {l : List ℕ} {segs : List Seg} {held : List 
               clear = (segs-off a e _ _ (p .above) (p .below) segs off, k .clear);
             };
         still =
-            λ c m. zeroed-still _ _ l x y order fits (parted-flip x y _ _ (part-off a e x y from to _ _ (all-mem (OffBlock a e) c held m others)));
+            λ c m. zeroed-still _ _ l x y order fits (parted-flip x y _ _ (all-mem (OffBlock x y) c held m (blocks-off a e x y from to held others)));
       }
     where
-      eight : (g : Seg) → OffSeg x y g → Outside x y g
-      eight g (inl u) = inr u
-      eight g (inr u) = inl (omega arith)
+      eight : (g : Seg) → OffSeg a e g → Outside x y g
+      eight g u = parted-parts (g .offset) (g .offset + 8) x y (omega arith) (omega arith) from to (parted-flip a e (g .offset) (endOf g) u)
 
   module _ (h′ : Header) (top : h′ .allocated ≡ h .allocated) where
     -- the list is emptied

@@ -2,14 +2,14 @@
 -- Each line has what the definitions compute and what the document states; one theorem says that they agree on every line. Assumes nothing.
 use Prim.Native.Nat.{ℕ, _-_}
 use mathlib.Core.Path.{_≡_, refl}
-use mathlib.Core.Bool.{Bool, true, false}
+use mathlib.Core.Bool.{true, false}
 use mathlib.Core.List.{List, [], _∷_, _++_, map}
 use lib.IntN.{pos, negsuc}
 use lib.ListN.{take, drop, replicate}
 use Rattle.words.specs.Round as R
 use Rattle.words.specs.Align as Al
 use Rattle.words.specs.Word as W
-use Rattle.records.specs.Answer.{Outcome, Said, granted, nothing, givenBack, sum, done, refused}
+use Rattle.records.specs.Answer.{Outcome, Said, granted, nothing, refused}
 use Rattle.records.specs.Setup as St
 use Rattle.records.specs.Setup.{dataOffset, freshHeader}
 use Rattle.records.specs.Change.{withTop}
@@ -21,7 +21,6 @@ use Rattle.records.specs.declared.Order.the-variants.{Optimistic, Pessimistic}
 use Rattle.records.specs.declared.Freelist.{Freelist}
 use Rattle.records.specs.declared.Freelist.the-variants.{None, Ordered}
 use Rattle.records.specs.declared.Shape.{Shape}
-use Rattle.records.specs.declared.Header.{Header}
 use Rattle.records.specs.declared.Request.{Request}
 use Rattle.records.specs.declared.Request.the-variants.{Bytes, Typed, Aligned}
 use Rattle.records.specs.declared.Position.{Position}
@@ -31,7 +30,7 @@ use Rattle.records.specs.declared.Segment.the-variants.{At, Refused}
 use Rattle.requests.specs.Request as Rq
 use Rattle.requests.specs.Request.{block}
 use Rattle.positions.specs.NewTop as P
-use Rattle.freelist.specs.Segs.{Seg}
+use Rattle.freelist.specs.Segs.{Seg, All}
 use Rattle.freelist.specs.Check as C
 use Rattle.freelist.specs.Link as L
 use Rattle.freelist.specs.Sound as So
@@ -110,10 +109,9 @@ pub record Line : Type 0 where
 abbrev pub line : Figure → Figure → Line
 line a b = record { computed = a; stated = b }
 
--- the lines agree
-abbrev pub Agree : List Line → Type 0
-Agree [] = Unit {0}
-Agree (x ∷ xs) = (x .computed ≡ x .stated) × Agree xs
+-- the two are the same
+abbrev pub Agrees : Line → Type 0
+Agrees x = x .computed ≡ x .stated
 
 -- start S: bytes 40, 60, 92 give (8,40), (48,60), (108,92); after the give-backs discarded 16, top 200
 abbrev pub settingOut : List Line
@@ -126,20 +124,12 @@ settingOut =
     ∷ line (number (s Pessimistic .header .allocated)) (number 200)
     ∷ []
 
-setting-out-holds : Agree settingOut
-unfolding R.roundUp Al.goodAlign W.valueOf W.digits W.splice W.wordAt W.putWord W.zeroed St.dataOffset Hd.headSound Ru.segmentOf Rq.goodLayout Rq.wellFormed Rq.plain Rq.forNothing Rq.want Rq.need Rq.asked Rq.topBlock Rq.zeroedFrom Rq.listBlock P.exactTop P.newTop C.inRange C.mayFollow C.kept C.goodRun C.soundb L.linkBytes L.linkHead L.insertBytes L.insertHead L.removeBytes L.removeHead So.sound So.free T.fromTop T.firstFit T.headFit T.look T.serveFrom T.serve T.fromList T.pastTop T.taking G.putIn G.belowTop G.givingBack Re.rewinding
-setting-out-holds = (refl, (refl, (refl, (refl, (refl, (refl, tt))))))
-
 -- pessimistic order 8, 48; optimistic 48, 8; nodes 8 with 32, 48 with 52
 abbrev pub sortedLists : List Line
 sortedLists =
     line (after (s Pessimistic) Pessimistic) (list (seg 8 32 ∷ seg 48 52 ∷ []))
     ∷ line (after (s Optimistic) Optimistic) (list (seg 48 52 ∷ seg 8 32 ∷ []))
     ∷ []
-
-sorted-lists-holds : Agree sortedLists
-unfolding R.roundUp Al.goodAlign W.valueOf W.digits W.splice W.wordAt W.putWord W.zeroed St.dataOffset Hd.headSound Ru.segmentOf Rq.goodLayout Rq.wellFormed Rq.plain Rq.forNothing Rq.want Rq.need Rq.asked Rq.topBlock Rq.zeroedFrom Rq.listBlock P.exactTop P.newTop C.inRange C.mayFollow C.kept C.goodRun C.soundb L.linkBytes L.linkHead L.insertBytes L.insertHead L.removeBytes L.removeHead So.sound So.free T.fromTop T.firstFit T.headFit T.look T.serveFrom T.serve T.fromList T.pastTop T.taking G.putIn G.belowTop G.givingBack Re.rewinding
-sorted-lists-holds = (refl, (refl, tt))
 
 -- bytes 30, pessimistic: memory (8,32), usable (16,30); optimistic: (48,52), (56,30). No split
 abbrev pub bytesThirty : List Line
@@ -150,10 +140,6 @@ bytesThirty =
     ∷ line (after (take′ (day Optimistic) (s Optimistic) (Bytes 30)) Optimistic) (list (seg 8 32 ∷ []))
     ∷ []
 
-bytes-thirty-holds : Agree bytesThirty
-unfolding R.roundUp Al.goodAlign W.valueOf W.digits W.splice W.wordAt W.putWord W.zeroed St.dataOffset Hd.headSound Ru.segmentOf Rq.goodLayout Rq.wellFormed Rq.plain Rq.forNothing Rq.want Rq.need Rq.asked Rq.topBlock Rq.zeroedFrom Rq.listBlock P.exactTop P.newTop C.inRange C.mayFollow C.kept C.goodRun C.soundb L.linkBytes L.linkHead L.insertBytes L.insertHead L.removeBytes L.removeHead So.sound So.free T.fromTop T.firstFit T.headFit T.look T.serveFrom T.serve T.fromList T.pastTop T.taking G.putIn G.belowTop G.givingBack Re.rewinding
-bytes-thirty-holds = (refl, (refl, (refl, (refl, tt))))
-
 -- bytes 4, optimistic: memory (48,4), usable (56,4), list 64 with 36, then 8; discarded 24
 abbrev pub bytesFour : List Line
 bytesFour =
@@ -162,20 +148,12 @@ bytesFour =
     ∷ line (number (take′ (day Optimistic) (s Optimistic) (Bytes 4) .header .discarded)) (number 24)
     ∷ []
 
-bytes-four-holds : Agree bytesFour
-unfolding R.roundUp Al.goodAlign W.valueOf W.digits W.splice W.wordAt W.putWord W.zeroed St.dataOffset Hd.headSound Ru.segmentOf Rq.goodLayout Rq.wellFormed Rq.plain Rq.forNothing Rq.want Rq.need Rq.asked Rq.topBlock Rq.zeroedFrom Rq.listBlock P.exactTop P.newTop C.inRange C.mayFollow C.kept C.goodRun C.soundb L.linkBytes L.linkHead L.insertBytes L.insertHead L.removeBytes L.removeHead So.sound So.free T.fromTop T.firstFit T.headFit T.look T.serveFrom T.serve T.fromList T.pastTop T.taking G.putIn G.belowTop G.givingBack Re.rewinding
-bytes-four-holds = (refl, (refl, (refl, tt)))
-
 -- pessimistic: (8,32), (16,4), no split
 abbrev pub bytesFourAgain : List Line
 bytesFourAgain =
     line (asks Pessimistic (Bytes 4)) (block4 8 32 16 4)
     ∷ line (after (take′ (day Pessimistic) (s Pessimistic) (Bytes 4)) Pessimistic) (list (seg 48 52 ∷ []))
     ∷ []
-
-bytes-four-again-holds : Agree bytesFourAgain
-unfolding R.roundUp Al.goodAlign W.valueOf W.digits W.splice W.wordAt W.putWord W.zeroed St.dataOffset Hd.headSound Ru.segmentOf Rq.goodLayout Rq.wellFormed Rq.plain Rq.forNothing Rq.want Rq.need Rq.asked Rq.topBlock Rq.zeroedFrom Rq.listBlock P.exactTop P.newTop C.inRange C.mayFollow C.kept C.goodRun C.soundb L.linkBytes L.linkHead L.insertBytes L.insertHead L.removeBytes L.removeHead So.sound So.free T.fromTop T.firstFit T.headFit T.look T.serveFrom T.serve T.fromList T.pastTop T.taking G.putIn G.belowTop G.givingBack Re.rewinding
-bytes-four-again-holds = (refl, (refl, tt))
 
 -- bytes 53: pessimistic 9 (53, 0), optimistic 9 (53, 52)
 abbrev pub bytesFiftyThree : List Line
@@ -184,10 +162,6 @@ bytesFiftyThree =
     ∷ line (asks Optimistic (Bytes 53)) (refusal 9 (53 ∷ 52 ∷ []))
     ∷ []
 
-bytes-fifty-three-holds : Agree bytesFiftyThree
-unfolding R.roundUp Al.goodAlign W.valueOf W.digits W.splice W.wordAt W.putWord W.zeroed St.dataOffset Hd.headSound Ru.segmentOf Rq.goodLayout Rq.wellFormed Rq.plain Rq.forNothing Rq.want Rq.need Rq.asked Rq.topBlock Rq.zeroedFrom Rq.listBlock P.exactTop P.newTop C.inRange C.mayFollow C.kept C.goodRun C.soundb L.linkBytes L.linkHead L.insertBytes L.insertHead L.removeBytes L.removeHead So.sound So.free T.fromTop T.firstFit T.headFit T.look T.serveFrom T.serve T.fromList T.pastTop T.taking G.putIn G.belowTop G.givingBack Re.rewinding
-bytes-fifty-three-holds = (refl, (refl, tt))
-
 -- typed 8 align 8, pessimistic: memory (8,32), usable (8,8), bytes 16 to 30 zeroed, and byte 31 not
 abbrev pub typedEight : List Line
 typedEight =
@@ -195,19 +169,11 @@ typedEight =
     ∷ line (bytes (take 16 (drop 16 (take′ (day Pessimistic) (s Pessimistic) (Typed 8 8) .bytes)))) (bytes (replicate 15 0 ++ 7 ∷ []))
     ∷ []
 
-typed-eight-holds : Agree typedEight
-unfolding R.roundUp Al.goodAlign W.valueOf W.digits W.splice W.wordAt W.putWord W.zeroed St.dataOffset Hd.headSound Ru.segmentOf Rq.goodLayout Rq.wellFormed Rq.plain Rq.forNothing Rq.want Rq.need Rq.asked Rq.topBlock Rq.zeroedFrom Rq.listBlock P.exactTop P.newTop C.inRange C.mayFollow C.kept C.goodRun C.soundb L.linkBytes L.linkHead L.insertBytes L.insertHead L.removeBytes L.removeHead So.sound So.free T.fromTop T.firstFit T.headFit T.look T.serveFrom T.serve T.fromList T.pastTop T.taking G.putIn G.belowTop G.givingBack Re.rewinding
-typed-eight-holds = (refl, (refl, tt))
-
 -- give back (108,92) instead: top 108
 abbrev pub topAgain : List Line
 topAgain =
     line (number (give (day Optimistic) (written (morning Optimistic)) 108 92 .header .allocated)) (number 108)
     ∷ []
-
-top-again-holds : Agree topAgain
-unfolding R.roundUp Al.goodAlign W.valueOf W.digits W.splice W.wordAt W.putWord W.zeroed St.dataOffset Hd.headSound Ru.segmentOf Rq.goodLayout Rq.wellFormed Rq.plain Rq.forNothing Rq.want Rq.need Rq.asked Rq.topBlock Rq.zeroedFrom Rq.listBlock P.exactTop P.newTop C.inRange C.mayFollow C.kept C.goodRun C.soundb L.linkBytes L.linkHead L.insertBytes L.insertHead L.removeBytes L.removeHead So.sound So.free T.fromTop T.firstFit T.headFit T.look T.serveFrom T.serve T.fromList T.pastTop T.taking G.putIn G.belowTop G.givingBack Re.rewinding
-top-again-holds = (refl, tt)
 
 -- rule at offset 16: size 28 accepted (20), 27 refused; minimum 0: 9 accepted, 8 refused. (13,33): node 16, size 22
 abbrev pub segmentRule : List Line
@@ -219,10 +185,6 @@ segmentRule =
     ∷ line (rule (segmentOf 20 13 33)) (rule (At 16 22))
     ∷ []
 
-segment-rule-holds : Agree segmentRule
-unfolding R.roundUp Al.goodAlign W.valueOf W.digits W.splice W.wordAt W.putWord W.zeroed St.dataOffset Hd.headSound Ru.segmentOf Rq.goodLayout Rq.wellFormed Rq.plain Rq.forNothing Rq.want Rq.need Rq.asked Rq.topBlock Rq.zeroedFrom Rq.listBlock P.exactTop P.newTop C.inRange C.mayFollow C.kept C.goodRun C.soundb L.linkBytes L.linkHead L.insertBytes L.insertHead L.removeBytes L.removeHead So.sound So.free T.fromTop T.firstFit T.headFit T.look T.serveFrom T.serve T.fromList T.pastTop T.taking G.putIn G.belowTop G.givingBack Re.rewinding
-segment-rule-holds = (refl, (refl, (refl, (refl, (refl, tt)))))
-
 -- data offsets for reserved 0, 1, 8, 9: 1, 2, 9, 10; unify 32, 40, 40, 48
 abbrev pub dataOffsets : List Line
 dataOffsets =
@@ -230,19 +192,11 @@ dataOffsets =
     ∷ line (bytes (map (λ (n : ℕ). dataOffset n true) (0 ∷ 1 ∷ 8 ∷ 9 ∷ []))) (bytes (32 ∷ 40 ∷ 40 ∷ 48 ∷ []))
     ∷ []
 
-data-offsets-holds : Agree dataOffsets
-unfolding R.roundUp Al.goodAlign W.valueOf W.digits W.splice W.wordAt W.putWord W.zeroed St.dataOffset Hd.headSound Ru.segmentOf Rq.goodLayout Rq.wellFormed Rq.plain Rq.forNothing Rq.want Rq.need Rq.asked Rq.topBlock Rq.zeroedFrom Rq.listBlock P.exactTop P.newTop C.inRange C.mayFollow C.kept C.goodRun C.soundb L.linkBytes L.linkHead L.insertBytes L.insertHead L.removeBytes L.removeHead So.sound So.free T.fromTop T.firstFit T.headFit T.look T.serveFrom T.serve T.fromList T.pastTop T.taking G.putIn G.belowTop G.givingBack Re.rewinding
-data-offsets-holds = (refl, (refl, tt))
-
 -- top 1, cap 200, typed 8 align 8: memory (1,15), usable (8,8)
 abbrev pub typedAtOne : List Line
 typedAtOne =
     line (says (taking (shape 200 1 (Ordered Optimistic)) (freshHeader 1 20) (replicate 200 0) (Typed 8 8) .says)) (block4 1 15 8 8)
     ∷ []
-
-typed-at-one-holds : Agree typedAtOne
-unfolding R.roundUp Al.goodAlign W.valueOf W.digits W.splice W.wordAt W.putWord W.zeroed St.dataOffset Hd.headSound Ru.segmentOf Rq.goodLayout Rq.wellFormed Rq.plain Rq.forNothing Rq.want Rq.need Rq.asked Rq.topBlock Rq.zeroedFrom Rq.listBlock P.exactTop P.newTop C.inRange C.mayFollow C.kept C.goodRun C.soundb L.linkBytes L.linkHead L.insertBytes L.insertHead L.removeBytes L.removeHead So.sound So.free T.fromTop T.firstFit T.headFit T.look T.serveFrom T.serve T.fromList T.pastTop T.taking G.putIn G.belowTop G.givingBack Re.rewinding
-typed-at-one-holds = (refl, tt)
 
 -- None, cap 20, top 13, size 8 align 8: typed 9 (24, 7); aligned, extra 0: 9 (8, 7)
 abbrev pub underNone : List Line
@@ -250,10 +204,6 @@ underNone =
     line (full (Typed 8 8)) (refusal 9 (24 ∷ 7 ∷ []))
     ∷ line (full (Aligned 8 8 0)) (refusal 9 (8 ∷ 7 ∷ []))
     ∷ []
-
-under-none-holds : Agree underNone
-unfolding R.roundUp Al.goodAlign W.valueOf W.digits W.splice W.wordAt W.putWord W.zeroed St.dataOffset Hd.headSound Ru.segmentOf Rq.goodLayout Rq.wellFormed Rq.plain Rq.forNothing Rq.want Rq.need Rq.asked Rq.topBlock Rq.zeroedFrom Rq.listBlock P.exactTop P.newTop C.inRange C.mayFollow C.kept C.goodRun C.soundb L.linkBytes L.linkHead L.insertBytes L.insertHead L.removeBytes L.removeHead So.sound So.free T.fromTop T.firstFit T.headFit T.look T.serveFrom T.serve T.fromList T.pastTop T.taking G.putIn G.belowTop G.givingBack Re.rewinding
-under-none-holds = (refl, (refl, tt))
 
 -- rewind: Start(0) 8, Start(500) 200, Current(-108) 108, Current(-109) 8, Current(-101) 8, Current(92) 200, End(150) 50, End(201) 8
 abbrev pub rewinds : List Line
@@ -268,20 +218,12 @@ rewinds =
     ∷ line (rewind (End 201)) (number 8)
     ∷ []
 
-rewinds-holds : Agree rewinds
-unfolding R.roundUp Al.goodAlign W.valueOf W.digits W.splice W.wordAt W.putWord W.zeroed St.dataOffset Hd.headSound Ru.segmentOf Rq.goodLayout Rq.wellFormed Rq.plain Rq.forNothing Rq.want Rq.need Rq.asked Rq.topBlock Rq.zeroedFrom Rq.listBlock P.exactTop P.newTop C.inRange C.mayFollow C.kept C.goodRun C.soundb L.linkBytes L.linkHead L.insertBytes L.insertHead L.removeBytes L.removeHead So.sound So.free T.fromTop T.firstFit T.headFit T.look T.serveFrom T.serve T.fromList T.pastTop T.taking G.putIn G.belowTop G.givingBack Re.rewinding
-rewinds-holds = (refl, (refl, (refl, (refl, (refl, (refl, (refl, (refl, tt))))))))
-
 -- in S, End(150): refusal 8. Give back (8,40) again: 7
 abbrev pub refusals : List Line
 refusals =
     line (says (rewinding (day Optimistic) (s Optimistic .header) (s Optimistic .bytes) (End 150) .says)) (refusal 8 [])
     ∷ line (says (give (day Optimistic) (s Optimistic) 8 40 .says)) (refusal 7 [])
     ∷ []
-
-refusals-holds : Agree refusals
-unfolding R.roundUp Al.goodAlign W.valueOf W.digits W.splice W.wordAt W.putWord W.zeroed St.dataOffset Hd.headSound Ru.segmentOf Rq.goodLayout Rq.wellFormed Rq.plain Rq.forNothing Rq.want Rq.need Rq.asked Rq.topBlock Rq.zeroedFrom Rq.listBlock P.exactTop P.newTop C.inRange C.mayFollow C.kept C.goodRun C.soundb L.linkBytes L.linkHead L.insertBytes L.insertHead L.removeBytes L.removeHead So.sound So.free T.fromTop T.firstFit T.headFit T.look T.serveFrom T.serve T.fromList T.pastTop T.taking G.putIn G.belowTop G.givingBack Re.rewinding
-refusals-holds = (refl, (refl, tt))
 
 -- the whole ledger, a group of lines for each of the paper's
 abbrev pub ledger : List (List Line)
@@ -302,11 +244,8 @@ ledger =
     ∷ refusals
     ∷ []
 
-abbrev pub AllAgree : List (List Line) → Type 0
-AllAgree [] = Unit {0}
-AllAgree (g ∷ gs) = Agree g × AllAgree gs
-
 -- every line of the ledger holds
-pub ledger-holds : AllAgree ledger
+pub ledger-holds : All (All Agrees) ledger
+unfolding R.roundUp Al.goodAlign W.valueOf W.digits W.splice W.wordAt W.putWord W.zeroed St.dataOffset Hd.headSound Ru.segmentOf Rq.goodLayout Rq.wellFormed Rq.plain Rq.forNothing Rq.want Rq.need Rq.asked Rq.topBlock Rq.zeroedFrom Rq.listBlock P.exactTop P.newTop C.inRange C.mayFollow C.kept C.goodRun C.soundb L.linkBytes L.linkHead L.insertBytes L.insertHead L.removeBytes L.removeHead So.sound So.free T.fromTop T.firstFit T.headFit T.look T.serveFrom T.serve T.fromList T.pastTop T.taking G.putIn G.belowTop G.givingBack Re.rewinding
 ledger-holds =
-    (setting-out-holds, (sorted-lists-holds, (bytes-thirty-holds, (bytes-four-holds, (bytes-four-again-holds, (bytes-fifty-three-holds, (typed-eight-holds, (top-again-holds, (segment-rule-holds, (data-offsets-holds, (typed-at-one-holds, (under-none-holds, (rewinds-holds, (refusals-holds, tt))))))))))))))
+    ((refl, (refl, (refl, (refl, (refl, (refl, tt)))))), ((refl, (refl, tt)), ((refl, (refl, (refl, (refl, tt)))), ((refl, (refl, (refl, tt))), ((refl, (refl, tt)), ((refl, (refl, tt)), ((refl, (refl, tt)), ((refl, tt), ((refl, (refl, (refl, (refl, (refl, tt))))), ((refl, (refl, tt)), ((refl, tt), ((refl, (refl, tt)), ((refl, (refl, (refl, (refl, (refl, (refl, (refl, (refl, tt)))))))), ((refl, (refl, tt)), tt))))))))))))))

@@ -2,9 +2,7 @@
 pub mod Ledger
 pub mod Members
 pub mod Blocks
-pub mod Stills
 pub mod Holding
-pub mod Cuts
 pub mod Looks
 pub mod Cases
 pub mod Takes

@@ -1,15 +1,15 @@
 -- What a search of the list finds, in either order: a segment with room that is a best one, or a miss where no segment has room.
 -- The orders differ here alone, one law for each. So a request past the top has three ways to go. Assumes nothing.
-use Prim.Native.Nat.{ℕ, suc, _-_, _≤_, _<_}
+use Prim.Native.Nat.{ℕ, _-_, _≤_, _<_}
 use mathlib.Core.Path.{_≡_, refl}
-use mathlib.Core.Bool.{Bool, true, false}
+use mathlib.Core.Bool.{false}
 use mathlib.Core.List.{List, [], _∷_}
 use native.Mathlib.Omega.{arith}
 use borrow.Author.Tests.{leb-true, leb-false, ltb-true, ltb-false}
 use lib.Dec.{leb, ltb}
 use lib.ListN.{length, getD}
 use lib.Seq.{drop-cons}
-use Rattle.records.specs.Pick.{pick}
+use Rattle.records.proofs.Facts.{pick-either}
 use Rattle.records.specs.Answer.{Outcome, refuses}
 use Rattle.records.specs.declared.Order.{Order}
 use Rattle.records.specs.declared.Order.the-variants.{Optimistic, Pessimistic}
@@ -23,7 +23,7 @@ use Rattle.freelist.specs.Segs.{Seg, All, Leads, Good}
 use Rattle.freelist.specs.Place.{place}
 use Rattle.freelist.specs.Sound.{free}
 use Rattle.freelist.proofs.Listing.{all-map}
-use Rattle.freelist.proofs.Places.{place-passes}
+use Rattle.freelist.proofs.Places.{place-passes, place-none}
 use Rattle.freelist.proofs.Sounds.{head-largest, first-smallest}
 use Rattle.arena.specs.Take.{Found, found, missed, headFit, firstFit, look, nowhere, serve, fromList, pastTop}
 use Rattle.promise.specs.Runs.{Best}
@@ -33,41 +33,26 @@ abbrev pub Looked : Order → ℕ → List Seg → Found → Type 0
 Looked o n segs (found k) = (k < length segs) × (n ≤ getD segs k nowhere .size) × Best (Ordered o) n (getD segs k nowhere) segs
 Looked o n segs (missed room) = All (λ g. g .size < n) segs
 
--- where the place is past the end, none passes
-place-none : {A : Type 0} (f : A → Bool) (xs : List A) → length xs ≤ place f xs → All (λ x. f x ≡ false) xs
-place-none f [] h = tt
-place-none {A} f (x ∷ xs) h = go (f x) refl (place-none f xs) h
-  where
-    go : (t : Bool) → f x ≡ t → (length xs ≤ place f xs → All (λ y. f y ≡ false) xs) → length (x ∷ xs) ≤ pick t 0 (suc (place f xs)) → All (λ y. f y ≡ false) (x ∷ xs)
-    go true e r k = absurd (omega arith)
-    go false e r k = (e, r (omega arith))
-
 module _ (start top n room : ℕ) where
   -- the head of a falling list is a largest, and where it has no room none has
   head-looked : (segs : List Seg) → Good start top Optimistic segs → Looked Optimistic n segs (headFit n room segs)
   unfolding headFit
   head-looked [] g = tt
-  head-looked (s ∷ ss) g = go (leb n (s .size)) refl
-    where
-      go : (t : Bool) → leb n (s .size) ≡ t → Looked Optimistic n (s ∷ ss) (pick t (found 0) (missed (s .size)))
-      go true e = (omega arith, leb-true _ _ e, head-largest start top s ss g)
-      go false e =
-          (leb-false _ _ e, all-map (Leads Optimistic s) (λ u. u .size < n) (λ u h. omega (arith, leb-true, leb-false)) ss (g .sorted .0))
+  head-looked (s ∷ ss) g =
+      pick-either (Looked Optimistic n (s ∷ ss)) (leb n (s .size)) _ _
+      (λ e. (omega arith, leb-true _ _ e, head-largest start top s ss g))
+      (λ e. (leb-false _ _ e, all-map (Leads Optimistic s) (λ u. u .size < n) (λ u h. omega (arith, leb-true, leb-false)) ss (g .sorted .0)))
 
   -- the first with room in a rising list is a smallest with room
   first-looked : (segs : List Seg) → Good start top Pessimistic segs → Looked Pessimistic n segs (firstFit n room segs)
   unfolding firstFit
-  first-looked segs g = go (ltb (place fits segs) (length segs)) refl
-    where
-      fits : Seg → Bool
-      fits s = leb n (s .size)
-
-      go : (t : Bool) → ltb (place fits segs) (length segs) ≡ t → Looked Pessimistic n segs (pick t (found (place fits segs)) (missed room))
-      go true e =
-          let k : place fits segs < length segs = ltb-true _ _ e in
-          (k, leb-true _ _ (place-passes fits segs nowhere k), first-smallest start top n segs (getD segs (place fits segs) nowhere) _ g (drop-cons segs (place fits segs) nowhere k))
-      go false e =
-          all-map (λ s. fits s ≡ false) (λ s. s .size < n) (λ s. leb-false n (s .size)) segs (place-none fits segs (ltb-false _ _ e))
+  first-looked segs g =
+      let k = place (λ s. leb n (s .size)) segs in
+      pick-either (Looked Pessimistic n segs) (ltb k (length segs)) _ _
+      (λ e.
+      let there = ltb-true _ _ e in
+      (there, leb-true _ _ (place-passes _ segs nowhere there), first-smallest start top n segs (getD segs k nowhere) _ g (drop-cons segs k nowhere there)))
+      (λ e. all-map (λ s. leb n (s .size) ≡ false) (λ s. s .size < n) (λ s. leb-false n (s .size)) segs (place-none _ segs (ltb-false _ _ e)))
 
   pub looked : (o : Order) (segs : List Seg) → Good start top o segs → Looked o n segs (look o n room segs)
   unfolding look

@@ -10,7 +10,7 @@ use lib.ListN.{length}
 use Rattle.records.specs.Answer.{Outcome, leaves, sum, done}
 use Rattle.records.specs.Head.{headSound}
 use Rattle.records.specs.Change.{withTop, withLeast, losing}
-use Rattle.records.proofs.Facts.{both}
+use Rattle.records.proofs.Facts.{both, pick-either}
 use Rattle.records.specs.declared.Shape.{Shape}
 use Rattle.records.specs.declared.Header.{Header}
 use Rattle.records.specs.declared.Block.{Block}
@@ -27,7 +27,7 @@ use Rattle.promise.specs.Runs.{State, freeIn, only, endsBy}
 use Rattle.promise.proofs.Members.{only-passes}
 use Rattle.promise.proofs.Blocks.{hullEnd}
 use Rattle.promise.proofs.Holding.{Kept, keeps, hold-head, hold-only, hold-top, hold-counters, hold-emptied}
-use Rattle.promise.proofs.Cases.{Left, pick-either, left-quiet, left-refused}
+use Rattle.promise.proofs.Cases.{Left, left-quiet, left-refused}
 
 -- a block that ends by the new top has its hull below it
 ends-hull : (top : ℕ) (b : Block) → endsBy top b ≡ true → hullEnd b ≤ top

@@ -2,7 +2,7 @@
 -- So the theorems on reached states speak of what the code does, and not only of the definitions. `promise::perform` makes each call; its contract
 -- is the premise here. Assumes nothing.
 use Prim.Native.Nat.{ℕ}
-use mathlib.Core.Path.{_≡_, sym, ap, _∙_}
+use mathlib.Core.Path.{_≡_, sym, ap}
 use mathlib.Core.Bool.{false}
 use mathlib.Core.List.{List, []}
 use lib.ListN.{length}
@@ -11,7 +11,6 @@ use Rattle.records.specs.Setup.{settingUp}
 use Rattle.records.specs.declared.Settings.{Settings}
 use Rattle.records.specs.declared.Shape.{Shape}
 use Rattle.records.specs.declared.Arena.{Arena}
-use Rattle.records.specs.declared.Begun.{Begun}
 use Rattle.records.specs.declared.Begun.the-variants.{Ready}
 use Rattle.records.specs.declared.Reply.{Reply}
 use Rattle.promise.specs.declared.Call.{Call}

@@ -1,16 +1,17 @@
 -- A request keeps the invariant. From the top, the new block lies between the old top and the new one, where nothing is. From the list, a segment
 -- leaves it and the new block lies inside that segment, before the rest that may go back; so it is apart from all that was apart from the segment.
 -- Assumes nothing.
-use Prim.Native.Nat.{ℕ, suc, _+_, _-_, _≤_, _<_}
+use Prim.Native.Nat.{ℕ, _+_, _-_, _≤_, _<_}
 use mathlib.Core.Path.{_≡_, refl, sym, ap}
 use mathlib.Core.Logic.{inl, inr}
 use mathlib.Core.Bool.{true, not}
 use mathlib.Core.List.{List, _∷_}
 use native.Mathlib.Omega.{arith}
 use borrow.Author.Tests.{leb-true, not-false}
-use lib.Dec.{leb, eqb}
-use lib.ListN.{length, take, drop, getD, take-append-drop}
+use lib.Dec.{leb}
+use lib.ListN.{length, getD}
 use Rattle.words.specs.Word.{nodeWord, zeroed, endMark}
+use Rattle.words.proofs.Ranges.{parted-flip}
 use Rattle.words.proofs.Digits.{word-next}
 use Rattle.records.specs.Answer.{Outcome, granted, nothing}
 use Rattle.records.specs.Head.{headSound}
@@ -24,24 +25,26 @@ use Rattle.records.specs.declared.Block.{Block}
 use Rattle.records.specs.declared.Request.{Request}
 use Rattle.records.specs.declared.Segment.{Segment}
 use Rattle.records.specs.declared.Segment.the-variants.{At, Refused}
+use Rattle.records.proofs.Facts.{pick-either}
+use Rattle.records.proofs.Rules.{Cut, cut-of}
 use Rattle.requests.specs.Request.{wellFormed, plain, forNothing, want, need, topBlock, zeroedFrom, listBlock}
 use Rattle.requests.proofs.Plans.{block-in-top, block-in-list, zeroed-from-top, zeroed-to-want, plain-formed, need-some, want-above}
 use Rattle.freelist.specs.Segs.{Seg, All, InRange, EndsBy, Apart, leads, endOf}
 use Rattle.freelist.specs.Place.{place, insertAt, removeAt}
-use Rattle.freelist.specs.Link.{startOf, lastOf, linkHead, insertBytes, insertHead, removeBytes, removeHead}
+use Rattle.freelist.specs.Link.{insertBytes, insertHead, removeBytes, removeHead}
 use Rattle.freelist.specs.Sound.{firstOf, sound}
-use Rattle.freelist.proofs.Listing.{all-map, all-split}
+use Rattle.freelist.proofs.Listing.{all-map}
 use Rattle.freelist.proofs.Places.{all-at, all-insert, pairs-without}
-use Rattle.freelist.proofs.Links.{start-small}
+use Rattle.freelist.proofs.Meets.{OffSeg, apart-sym}
+use Rattle.freelist.proofs.Links.{remove-small}
 use Rattle.freelist.proofs.Sounds.{rest-apart}
 use Rattle.arena.specs.Take.{fromTop, serveFrom, nowhere, serve, taking}
 use Rattle.promise.specs.declared.Call.the-variants.{Take}
 use Rattle.promise.specs.Runs.{State, freeIn}
-use Rattle.promise.proofs.Blocks.{hullEnd, OffSeg, OffBlock, Placed, Clear, parted-flip, segs-off, blocks-off}
+use Rattle.promise.proofs.Blocks.{hullEnd, OffBlock, Placed, Clear, segs-off, blocks-off}
 use Rattle.promise.proofs.Holding.{Holding, Onward, Kept, onward-then, hold-head, hold-ranged, hold-parted, hold-below, hold-good, hold-top, hold-granted, hold-insert, hold-remove}
-use Rattle.promise.proofs.Cuts.{Cut, cut-of}
 use Rattle.promise.proofs.Looks.{past-each}
-use Rattle.promise.proofs.Cases.{Left, pick-either, left-onward, left-quiet, left-refused}
+use Rattle.promise.proofs.Cases.{Left, left-onward, left-quiet, left-refused}
 
 -- the blocks of requests lie in the ranges that serve them
 top-placed : (top : ℕ) (r : Request) → wellFormed r ≡ true → top < want top r → Placed top (want top r) (topBlock top r)
@@ -78,8 +81,8 @@ module _ {s : Shape} {h : Header} {l : List ℕ} {segs : List Seg} {held : List 
     -- nothing else has a byte of it
     others : All (OffSeg (g .offset) (endOf g)) left
     others =
-        all-map (λ t. Apart t g) (OffSeg (g .offset) (endOf g)) (λ t. parted-flip (t .offset) (endOf t) (g .offset) (endOf g)) left
-        (pairs-without Apart (λ a b. parted-flip (a .offset) (endOf a) (b .offset) (endOf b)) i segs nowhere there (hold-parted k))
+        all-map (λ t. Apart t g) (Apart g) (λ t. apart-sym t g) left
+        (pairs-without Apart apart-sym i segs nowhere there (hold-parted k))
 
     blocks : All (OffBlock (g .offset) (endOf g)) held
     blocks =
@@ -100,13 +103,9 @@ module _ {s : Shape} {h : Header} {l : List ℕ} {segs : List Seg} {held : List 
 
     -- the list without the segment starts where the sentinel says
     first-out : firstOf out ≡ removeHead (firstOf h) segs i
-    unfolding removeHead linkHead
     first-out =
         let n = hold-head k in
-        let ends = all-split (EndsBy (h .allocated)) (take (suc i) segs) (drop (suc i) segs) (rw (take-append-drop (suc i) segs) (hold-below k)) .1 in
-        word-next endMark (removeHead (firstOf h) segs i)
-        (pick-either (λ (x : ℕ). x < 4294967296) (eqb (lastOf (take i segs)) endMark) (startOf (drop (suc i) segs)) (firstOf h)
-        (λ _. start-small (h .allocated) (drop (suc i) segs) (omega (arith, n)) ends) (λ _. omega arith))
+        word-next endMark (removeHead (firstOf h) segs i) (remove-small (h .allocated) (firstOf h) segs i (omega (arith, n)) (hold-below k) (omega arith))
 
     module _ (q : Seg) (c : Cut (g .offset + 8 + need r) (g .size - need r) (q .offset) (q .size)) where
       abbrev at : ℕ

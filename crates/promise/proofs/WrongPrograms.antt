@@ -202,10 +202,9 @@ unfolding R.roundUp W.valueOf W.digits W.splice W.wordAt W.putWord W.zeroed St.d
 refuses-past-out m =
     let once = next (Give 8 24) (block 8 24 8 24, List·Memᴰ·tail (List·Memᴰ·tail (List·Memᴰ·head refl)), refl, refl) (taken-brought refusesPast) in
     let ten : PastTop small (leftBy refusesPast small (takenBy refusesPast) (Give 8 24)) (Bytes 10) = record { formed = refl; some = refl; past = omega arith } in
-    let ordered : _≡_ {A = Freelist} (Ordered Optimistic) None → ⊥ = λ e. let z : _≡_ {A = ℕ} 0 1 = cc in omega arith in
+    let ordered : _≡_ {A = Freelist} (Ordered Optimistic) None → ⊥ = λ e. false≢true cc in
     let b = m small _ once (Bytes 10) ten ordered .1 (record { offset = 8; size = 16 }, List·Memᴰ·head refl, omega arith) in
-    let z : _≡_ {A = ℕ} 0 1 = cc (b .1) in
-    omega arith
+    false≢true (cc (b .1))
 
 -- an invented discard sum
 abbrev invented : Said → Said

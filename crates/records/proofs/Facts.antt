@@ -1,18 +1,32 @@
--- From the head's test to its facts, and back.
+-- Tests taken apart, and a choice by a test; from the head's test to its facts, and back.
 -- Assumes nothing.
-use Prim.Native.Nat.{ℕ, _≤_}
+use Prim.Native.Nat.{ℕ}
 use mathlib.Core.Path.{_≡_, refl}
-use mathlib.Core.Bool.{Bool, true, false, _&&_}
-use native.Mathlib.Omega.{arith}
+use mathlib.Core.Bool.{Bool, true, false, _&&_, _||_, and-eq-true-iff, true≢false}
 use borrow.Author.Tests.{leb-true, eqb-true, le-leb, eq-eqb}
+use Rattle.records.specs.Pick.{pick}
 use Rattle.records.specs.Head.{Head, headSound}
 use Rattle.records.specs.declared.Shape.{Shape}
 use Rattle.records.specs.declared.Header.{Header}
 
 -- both tests of a conjunction hold
 pub both : (a b : Bool) → (a && b) ≡ true → (a ≡ true) × (b ≡ true)
-both true b e = (refl, e)
-both false b e = let z : _≡_ {A = ℕ} 0 1 = cc in absurd (omega arith)
+both a b = and-eq-true-iff a b .0
+
+-- neither test of a disjunction holds
+pub neither : (a b : Bool) → (a || b) ≡ false → (a ≡ false) × (b ≡ false)
+neither false b e = (refl, e)
+neither true b e = absurd (true≢false e)
+
+-- a test that cannot hold fails
+pub fails : (t : Bool) → (t ≡ true → ⊥) → t ≡ false
+fails true never = absurd (never refl)
+fails false never = refl
+
+-- what holds of both branches, each with what the test says there, holds of the choice
+pub pick-either : {A : Type 0} (P : A → Type 0) (t : Bool) (a b : A) → (t ≡ true → P a) → (t ≡ false → P b) → P (pick t a b)
+pick-either P true a b f g = f refl
+pick-either P false a b f g = g refl
 
 module _ (s : Shape) (h : Header) (n : ℕ) where
   pub head-facts : headSound s h n ≡ true → Head s h n
@@ -37,8 +51,4 @@ module _ (s : Shape) (h : Header) (n : ℕ) where
 
   -- where one fact fails, so does the test
   pub head-no : (Head s h n → ⊥) → headSound s h n ≡ false
-  head-no never = go (headSound s h n) refl
-    where
-      go : (b : Bool) → headSound s h n ≡ b → headSound s h n ≡ false
-      go true e = absurd (never (head-facts e))
-      go false e = e
+  head-no never = fails (headSound s h n) (λ e. never (head-facts e))

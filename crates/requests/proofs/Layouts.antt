@@ -2,8 +2,7 @@
 -- Assumes nothing.
 use Prim.Native.Nat.{ℕ, _-_, _%_, _≤_, _<_}
 use mathlib.Core.Path.{_≡_, refl}
-use mathlib.Core.Bool.{Bool, true, false}
-use native.Mathlib.Omega.{arith}
+use mathlib.Core.Bool.{Bool, true, false, false≢true}
 use borrow.Author.Tests.{leb-true, leb-false, eqb-true, le-leb, lt-leb}
 use lib.Dec.{leb, eqb}
 use lib.Bits.{bitAnd}
@@ -22,8 +21,7 @@ good-small a good = elim (leb a 4096) as (λ (t : Bool). leb a 4096 ≡ t → a 
   | true ↦ λ q. leb-true a 4096 q
   | false ↦ λ q.
       let bad : goodAlign a ≡ false = align-large a (leb-false a 4096 q) in
-      let z : _≡_ {A = ℕ} 0 1 = cc in
-      absurd (omega arith)
+      absurd (false≢true cc)
 ] refl
 
 -- a size and an alignment that may be asked for together

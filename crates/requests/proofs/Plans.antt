@@ -43,17 +43,6 @@ needed (Bytes n) h = let small = bytes-formed refl h in record { is = refl; smal
 needed (Typed size align) h = let f = typed-formed refl h in record { is = refl; small = omega arith }
 needed (Aligned size align extra) h = let f = aligned-formed refl h in record { is = refl; small = omega arith }
 
--- a request at the top wants no more than the top and its need
-pub want-need : (top : ℕ) (r : Request) → wellFormed r ≡ true → want top r ≤ top + need r
-unfolding want need
-want-need top (Bytes n) h = omega arith
-want-need top (Typed size align) h =
-    let f = typed-formed refl h in
-    omega (arith, round-lt align top (f .some))
-want-need top (Aligned size align extra) h =
-    let f = aligned-formed refl h in
-    omega (arith, round-lt align top (f .0 .some))
-
 -- a block that covers the bytes from the top up to what is wanted, with a usable part that ends there
 pub record InTop (top wanted : ℕ) (b : Block) : Type 0 where
   pub starts : b .«memory_offset» ≡ top
@@ -71,10 +60,6 @@ module _ (top : ℕ) (r : Request) (formed : wellFormed r ≡ true) where
   -- zeroing starts at or above the top
   pub zeroed-from-top : top ≤ zeroedFrom top r
   zeroed-from-top = omega (arith, planned top r formed)
-
-  -- and at or above the usable part
-  pub zeroed-from-usable : topBlock top r .«usable_offset» ≤ zeroedFrom top r
-  zeroed-from-usable = planned top r formed .mid
 
   -- and not past what is wanted, where it ends
   pub zeroed-to-want : zeroedFrom top r ≤ want top r
@@ -94,11 +79,6 @@ zeroed-typed top size align = refl
 pub zeroed-aligned : (top size align extra : ℕ) → zeroedFrom top (Aligned size align extra) ≡ want top (Aligned size align extra)
 unfolding zeroedFrom want
 zeroed-aligned top size align extra = refl
-
--- bytes of a segment end at their need past the node word
-pub list-bytes-end : (p m n : ℕ) → listBlock p m (Bytes n) .«usable_offset» + listBlock p m (Bytes n) .«usable_size» ≡ p + 8 + need (Bytes n)
-unfolding listBlock need
-list-bytes-end p m n = refl
 
 -- the usable part of a typed block of a segment ends within the memory
 pub list-typed-end : (p m size align : ℕ) → wellFormed (Typed size align) ≡ true → need (Typed size align) ≤ m

@@ -1,6 +1,7 @@
--- The laws of digits and words.
+-- The laws of digits and words: bytes as numbers, what a lent part gives back, what is read back after a word is put or a range zeroed, and a word's halves.
+-- Assumes nothing.
 use Prim.Native.Nat.{ℕ, zero, suc, _+_, _-_, _*_, _/_, _%_, _^_, _≤_, _<_}
-use mathlib.Core.Path.{_≡_, refl, ap, sym, _∙_}
+use mathlib.Core.Path.{_≡_, refl, ap, _∙_}
 use mathlib.Core.List.{List, [], _∷_, _++_, append-nil}
 use native.Mathlib.Omega.{arith}
 use native.Mathlib.Nat.{pow-suc, div-div-eq-div-mul, add-sub-cancel-left}
@@ -8,7 +9,8 @@ use lib.ListN.{length, take, drop, getD, replicate, length-replicate, drop-of-le
 use lib.Seq.{drop-cons, sets, sets-eq}
 use native.Mathlib.Numerals.{add-one}
 use Rattle.words.specs.Word.{valueOf, digits, splice, wordAt, putWord, zeroed, sizeHalf, nextHalf, nodeWord, NodeOf}
-use Rattle.words.proofs.Splice.{lent-back, splice-length, splice-part, splice-before, splice-after}
+use Rattle.words.proofs.Ranges.{Parted}
+use Rattle.words.proofs.Splice.{lent-back, splice-length, splice-part, splice-off}
 
 pub digits-length : (n w : ℕ) → length (digits n w) ≡ n
 unfolding digits
@@ -89,31 +91,25 @@ module _ (l : List ℕ) (p w : ℕ) (fits : p + 8 ≤ length l) where
   unfolding putWord wordAt digits
   put-same h = ap valueOf (splice-part l p (digits 8 w) fits) ∙ value-digits 8 w h
 
-  pub put-before : (q : ℕ) → q + 8 ≤ p → wordAt (putWord l p w) q ≡ wordAt l q
+  pub put-off : (q : ℕ) → Parted q (q + 8) p (p + 8) → wordAt (putWord l p w) q ≡ wordAt l q
   unfolding putWord wordAt digits
-  put-before q le = ap valueOf (splice-before l p (digits 8 w) fits q 8 le)
+  put-off q off = ap valueOf (splice-off l p (digits 8 w) fits q 8 off)
 
-  pub put-after : (q : ℕ) → p + 8 ≤ q → wordAt (putWord l p w) q ≡ wordAt l q
-  unfolding putWord wordAt digits
-  put-after q le = ap (λ (k : List ℕ). valueOf (take 8 k)) (splice-after l p (digits 8 w) fits q le)
+-- the zeros from a on end at b
+pub zeroed-end : (a b : ℕ) → a ≤ b → a + length (replicate {A = ℕ} (b - a) 0) ≡ b
+zeroed-end a b order = simp length-replicate (omega arith)
 
 module _ (l : List ℕ) (a b : ℕ) (order : a ≤ b) (fits : b ≤ length l) where
   zero-fits : a + length (replicate {A = ℕ} (b - a) 0) ≤ length l
-  zero-fits = simp length-replicate (omega arith)
+  zero-fits = rw (zeroed-end a b order) fits
 
   pub zeroed-length : length (zeroed l a b) ≡ length l
   unfolding zeroed
   zeroed-length = splice-length l a (replicate (b - a) 0) zero-fits
 
-  pub zeroed-word-before : (q : ℕ) → q + 8 ≤ a → wordAt (zeroed l a b) q ≡ wordAt l q
+  pub zeroed-off : (q : ℕ) → Parted q (q + 8) a b → wordAt (zeroed l a b) q ≡ wordAt l q
   unfolding zeroed wordAt
-  zeroed-word-before q le = ap valueOf (splice-before l a (replicate (b - a) 0) zero-fits q 8 le)
-
-  pub zeroed-word-after : (q : ℕ) → b ≤ q → wordAt (zeroed l a b) q ≡ wordAt l q
-  unfolding zeroed wordAt
-  zeroed-word-after q le =
-      ap (λ (k : List ℕ). valueOf (take 8 k))
-      (splice-after l a (replicate (b - a) 0) zero-fits q (simp length-replicate (omega arith)))
+  zeroed-off q off = ap valueOf (splice-off l a (replicate (b - a) 0) zero-fits q 8 (rw (zeroed-end a b order) off))
 
 -- a node word and its halves
 pub word-size : (s n : ℕ) → n < 2 ^ 32 → sizeHalf (nodeWord s n) ≡ s
@@ -121,9 +117,6 @@ word-size s n h = omega arith
 
 pub word-next : (s n : ℕ) → n < 2 ^ 32 → nextHalf (nodeWord s n) ≡ n
 word-next s n h = omega arith
-
-pub word-fits : (s n : ℕ) → s < 2 ^ 32 → n < 2 ^ 32 → nodeWord s n < 2 ^ 64
-word-fits s n hs hn = omega arith
 
 -- the halves of eight bytes, each read by itself
 pub node-halves : (l : List ℕ) (s n : ℕ) → length l ≡ 8

@@ -10,7 +10,8 @@ use Rattle.words.specs.Word.{endMark}
 use Rattle.records.specs.Rule.{segmentOf}
 use Rattle.records.specs.declared.Segment.the-variants.{At}
 use Rattle.freelist.specs.Sound.{free}
-use Rattle.arena.proofs.Lists.{Held, free-held, inserted-small}
+use Rattle.freelist.proofs.Links.{inserted-small}
+use Rattle.arena.proofs.Lists.{Held, free-held}
 use Rattle.arena.proofs.Gives.{below-none, below-refused, node-inside, below-inserted}
 use Rattle.arena.proofs.give_below.Statement.{statement}
 use Rattle.arena.proofs.give_below.Tie as tie

@@ -1,4 +1,4 @@
--- `exports::arena_remaining` meets its contract. Assumes nothing.
+-- `exports::arena_remaining` meets its contract: the header that came over goes to the arena's own reader. Assumes nothing.
 use borrow.Author.Needs.{needs}
 use Rattle.exports.proofs.arena_remaining.Statement.{statement}
 use Rattle.exports.proofs.arena_remaining.Tie as tie

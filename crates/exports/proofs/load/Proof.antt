@@ -1,4 +1,4 @@
--- `exports::load` meets its contract. Assumes nothing.
+-- `exports::load` meets its contract: each number is read at its place, and the first two make the sentinel. Assumes nothing.
 use borrow.Author.Needs.{needs}
 use Rattle.exports.proofs.load.Statement.{statement}
 use Rattle.exports.proofs.load.Tie as tie

@@ -1,4 +1,4 @@
--- `exports::shape_out` meets its contract. Assumes nothing.
+-- `exports::shape_out` meets its contract: field by field, the policy by its code. Assumes nothing.
 use borrow.Author.Needs.{needs}
 use Rattle.exports.proofs.shape_out.Statement.{statement}
 use Rattle.exports.proofs.shape_out.Tie as tie

@@ -1,4 +1,4 @@
--- `positions::reached` meets its contract. Assumes nothing.
+-- `positions::reached` meets its contract: the answers of `exactTop` for a sum of 0 or more, in the order of its tests. Assumes nothing.
 use mathlib.Core.Path.{sym, _∙_}
 use native.Mathlib.Omega.{arith}
 use Rattle.positions.proofs.Sums.{reach-cap, reach-zero, reach-else}

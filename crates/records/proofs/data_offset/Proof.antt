@@ -1,4 +1,4 @@
--- `records::data_offset` meets its contract. Assumes nothing.
+-- `records::data_offset` meets its contract: each arm makes the number of `dataOffset`, and the bounds are those of rounding up. Assumes nothing.
 use native.Mathlib.Omega.{arith}
 use Rattle.records.specs.Setup.{dataOffset}
 use borrow.Author.Needs.{needs}

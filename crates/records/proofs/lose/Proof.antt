@@ -1,4 +1,4 @@
--- `records::lose` meets its contract. Assumes nothing.
+-- `records::lose` meets its contract: the sum, or the bound where the sum passes it, is the smaller of the two. Assumes nothing.
 use Prim.Native.Nat.{_+_, _≤_}
 use native.Mathlib.Omega.{arith}
 use native.Mathlib.Nat.{min-eq-left, min-eq-right}

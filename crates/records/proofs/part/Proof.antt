@@ -1,4 +1,4 @@
--- `records::part` meets its contract. Assumes nothing.
+-- `records::part` meets its contract: the cases of `partOf`. Past the buffer the part is empty, within it it is what is lent. Assumes nothing.
 use native.Mathlib.Omega.{arith}
 use Rattle.records.proofs.Parts.{part-in, part-out}
 use borrow.Author.Needs.{needs}

@@ -1,4 +1,4 @@
--- `records::policy_of` meets its contract. Assumes nothing.
+-- `records::policy_of` meets its contract: one code after another, in the order of `policyOf`. Assumes nothing.
 use Rattle.records.specs.Setup.{policyOf}
 use Rattle.words.proofs.Tests.{tests}
 use Rattle.records.proofs.policy_of.Statement.{statement}

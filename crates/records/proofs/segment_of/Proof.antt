@@ -1,4 +1,4 @@
--- `records::segment_of` meets its contract. Assumes nothing.
+-- `records::segment_of` meets its contract: the cases of `segmentOf`, in the order of its tests. Assumes nothing.
 use mathlib.Core.Path.{sym}
 use native.Mathlib.Omega.{arith}
 use Rattle.records.proofs.Rules.{rule-origin, rule-empty, rule-no-room, rule-small, rule-at}

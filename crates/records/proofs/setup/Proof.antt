@@ -1,4 +1,4 @@
--- `records::setup` meets its contract. Assumes nothing.
+-- `records::setup` meets its contract: the cases of `settingUp`, in the order of its tests. Assumes nothing.
 use mathlib.Core.Path.{sym, _∙_}
 use native.Mathlib.Omega.{arith}
 use Rattle.records.proofs.Rules.{setup-unknown, setup-large, setup-short, setup-ready}

@@ -1,4 +1,4 @@
--- `records::with_first` meets its contract. Assumes nothing.
+-- `records::with_first` meets its contract: the sentinel is the node word of the end mark and the first node. Assumes nothing.
 use borrow.Author.Needs.{needs}
 use Rattle.records.proofs.with_first.Statement.{statement}
 use Rattle.records.proofs.with_first.Tie as tie

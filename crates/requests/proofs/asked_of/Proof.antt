@@ -1,4 +1,4 @@
--- `requests::asked_of` meets its contract. Assumes nothing.
+-- `requests::asked_of` meets its contract: each arm makes the number of `asked`, and a well-formed request bounds it. Assumes nothing.
 use native.Mathlib.Omega.{arith}
 use Rattle.requests.specs.Request.{asked}
 use Rattle.requests.proofs.Layouts.{Layout, bytes-formed, typed-formed, aligned-formed}

@@ -1,4 +1,4 @@
--- `requests::for_nothing` meets its contract. Assumes nothing.
+-- `requests::for_nothing` meets its contract: each arm is the case of `forNothing` for its request. Assumes nothing.
 use mathlib.Core.Path.{ap, sym}
 use Rattle.requests.specs.Request.{forNothing}
 use borrow.Author.Needs.{needs}

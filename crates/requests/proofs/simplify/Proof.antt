@@ -1,4 +1,4 @@
--- `requests::simplify` meets its contract. Assumes nothing.
+-- `requests::simplify` meets its contract: each arm is the case of `plain` for its request. Assumes nothing.
 use borrow.Author.Tests.{eq-eqb, ne-eqb}
 use Rattle.requests.specs.Request.{plain}
 use borrow.Author.Needs.{needs}

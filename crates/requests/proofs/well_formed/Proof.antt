@@ -1,4 +1,4 @@
--- `requests::well_formed` meets its contract. Assumes nothing.
+-- `requests::well_formed` meets its contract: each arm is the case of `wellFormed` for its request. Assumes nothing.
 use mathlib.Core.Path.{ap, sym, _∙_}
 use borrow.Author.Tests.{le-leb, lt-leb}
 use Rattle.requests.specs.Request.{wellFormed}

@@ -1,4 +1,4 @@
--- `words::align8` meets its contract. Assumes nothing.
+-- `words::align8` meets its contract: the code is the definition at 8. Assumes nothing.
 use native.Mathlib.Omega.{arith}
 use borrow.Author.Needs.{needs}
 use Rattle.words.specs.Round.{roundUp}

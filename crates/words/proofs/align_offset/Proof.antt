@@ -1,4 +1,4 @@
--- `words::align_offset` meets its contract. Assumes nothing.
+-- `words::align_offset` meets its contract: a good alignment is a power of two, so the mask takes off what is over a multiple. Assumes nothing.
 use native.Mathlib.Omega.{arith}
 use Prim.Native.Nat.{_+_, _-_}
 use lib.Bits.{and-le-l}

@@ -1,4 +1,4 @@
--- `words::node_at` meets its contract. Assumes nothing.
+-- `words::node_at` meets its contract: the eight bytes that are lent are the word's. Assumes nothing.
 use mathlib.Core.Path.{_≡_}
 use Prim.Native.Nat.{ℕ}
 use Rattle.words.specs.Word.{NodeOf}

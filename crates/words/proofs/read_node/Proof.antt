@@ -1,4 +1,4 @@
--- `words::read_node` meets its contract. Assumes nothing.
+-- `words::read_node` meets its contract: each half is read from its own four bytes. Assumes nothing.
 use denote.Ref.{now}
 use native.Mathlib.Omega.{arith}
 use Rattle.words.proofs.Digits.{node-halves}
