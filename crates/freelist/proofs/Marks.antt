@@ -1,144 +1,158 @@
--- A list of marks, read by its elements: a part has none set where each of its elements is 0, and marks that are set change in their own part only.
--- The turns of the loop that sets a part, over plain values.
+-- Marks as bits of words: the bits of `&`, of `|` and of a run of ones, the mark at each place once a word is set, and the turns of the loop that sets a part.
 -- Assumes nothing.
 use mathlib.Core.Path.{_≡_, refl, sym, ap, _∙_}
-use mathlib.Core.Bool.{Bool, true, false, _&&_}
-use mathlib.Core.List.{List, [], _∷_, _++_}
-use Prim.Native.Nat.{ℕ, zero, suc, _+_, _-_, _≤_, _<_}
-use native.Mathlib.Numerals.{add-one}
-use native.Mathlib.Decide.{decLe}
+use mathlib.Core.Logic.{_≢_}
+use mathlib.Core.List.{List}
+use Prim.Native.Nat.{ℕ, _+_, _-_, _*_, _/_, _%_, _^_, _≤_, _<_, min, max}
+use native.Mathlib.Nat.{div-eq-of-lt, mul-sub}
+use native.Mathlib.Decide.{decLe, ℕ-discrete}
 use native.Mathlib.Omega.{arith}
-use borrow.Author.Tests.{eqb-true, eq-eqb}
-use lib.Dec.{eqb}
-use lib.ListN.{length, getD, take, drop, replicate, length-take, length-drop, length-replicate, getD-replicate, List·getD-append, drop-of-length-le}
-use lib.Seq.{getD-take, getD-drop, getD-append-add, length-take-le, drop-cons}
-use lib.Bits.{bitOr, or-add-and, and-le-l, and-le-r, or-zero-l}
-use Rattle.words.specs.Word.{splice}
-use Rattle.words.proofs.Splice.{splice-length, lent-back}
-use Rattle.records.proofs.Facts.{both}
-use Rattle.freelist.specs.Marks.{noneSet}
+use lib.Arith.{bin-ind}
+use lib.Pow.{pow-pos, pow-mono, pow-add, high, shr-shr}
+use lib.Bits.{bitAnd, bitOr, and-step, or-step, and-shr, or-shr}
+use lib.ListN.{length, getD, set}
+use lib.Seq.{getD-set-same, getD-set-other}
+use Rattle.freelist.specs.Marks.{markAt, Unset, Marked}
 
--- marks that are not set
-none-at : (l : List ℕ) (i : ℕ) → noneSet l ≡ true → getD l i 0 ≡ 0
-unfolding noneSet
-none-at [] i e = refl
-none-at (m ∷ ms) zero e = eqb-true m 0 (both (eqb m 0) (noneSet ms) e .0)
-none-at (m ∷ ms) (suc i) e = none-at ms i (both (eqb m 0) (noneSet ms) e .1)
+-- the bits of `&` and of `|`
+and-bit : (a b j : ℕ) → bitAnd a b / 2 ^ j % 2 ≡ min (a / 2 ^ j % 2) (b / 2 ^ j % 2)
+and-bit a b j = omega (arith, and-shr a b j, and-step (a / 2 ^ j) (b / 2 ^ j))
 
-at-none : (l : List ℕ) → ((i : ℕ) → i < length l → getD l i 0 ≡ 0) → noneSet l ≡ true
-unfolding noneSet
-at-none [] h = refl
-at-none (m ∷ ms) h = rw (eq-eqb m 0 (h 0 (omega arith)), at-none ms (λ i k. h (suc i) (omega arith))) refl
+or-bit : (a b j : ℕ) → bitOr a b / 2 ^ j % 2 ≡ max (a / 2 ^ j % 2) (b / 2 ^ j % 2)
+or-bit a b j = omega (arith, or-shr a b j, or-step (a / 2 ^ j) (b / 2 ^ j))
 
-module _ (l : List ℕ) (a n : ℕ) where
-  part-at : (i : ℕ) → i < n → getD (take n (drop a l)) i 0 ≡ getD l (a + i) 0
-  part-at i h = getD-take n (drop a l) i 0 h ∙ getD-drop a l i 0
+-- a number is 0 where no bit of it is set
+bits-zero : (n : ℕ) → ((j : ℕ) → n / 2 ^ j % 2 ≡ 0) → n ≡ 0
+bits-zero =
+    bin-ind (λ (n : ℕ). ((j : ℕ) → n / 2 ^ j % 2 ≡ 0) → n ≡ 0) (λ h. refl)
+    (λ n ih h. omega (arith, h 0, ih (λ j. ap (λ (x : ℕ). x % 2) (shr-shr n 1 j) ∙ h (1 + j))))
 
-  pub none-part : noneSet (take n (drop a l)) ≡ true → (i : ℕ) → a ≤ i → i < a + n → getD l i 0 ≡ 0
-  none-part e i h k =
-      let j : a + (i - a) ≡ i = omega arith in
-      ap (λ (x : ℕ). getD l x 0) (sym j) ∙ sym (part-at (i - a) (omega arith)) ∙ none-at (take n (drop a l)) (i - a) e
+zero-bits : (n j : ℕ) → n ≡ 0 → n / 2 ^ j % 2 ≡ 0
+zero-bits n j e = ap (λ (x : ℕ). x / 2 ^ j % 2) e ∙ ap (λ (x : ℕ). x % 2) (div-eq-of-lt (pow-pos j))
 
-  pub part-none : ((i : ℕ) → a ≤ i → i < a + n → getD l i 0 ≡ 0) → noneSet (take n (drop a l)) ≡ true
-  part-none h =
-      at-none (take n (drop a l)) (λ i k. let q : i < n = omega (arith, length-take n (drop a l)) in part-at i q ∙ h (a + i) (omega arith) (omega arith))
+-- a power as a product of two
+pow-over : (j k : ℕ) → j ≤ k → 2 ^ k ≡ 2 ^ (k - j) * 2 ^ j
+pow-over j k h = let e : k ≡ k - j + j = omega arith in ap (λ (x : ℕ). 2 ^ x) e ∙ pow-add 2 (k - j) j
 
--- the elements past the first list of two
-past : (xs ys : List ℕ) (n i : ℕ) → length xs ≡ n → n ≤ i → getD (xs ++ ys) i 0 ≡ getD ys (i - n) 0
-past xs ys n i e h =
-    let j : i ≡ length xs + (i - n) = omega arith in
-    ap (λ (x : ℕ). getD (xs ++ ys) x 0) j ∙ getD-append-add xs ys (i - n) 0
+-- the bits of the ones from `from` up to `to`
+module _ (from to j : ℕ) where
+  ones-own : from ≤ j → j < to → (2 ^ to - 2 ^ from) / 2 ^ j % 2 ≡ 1
+  ones-own l h =
+      let e : 2 ^ to - 2 ^ from ≡ (2 ^ (to - j) - 1) * 2 ^ j + (2 ^ j - 2 ^ from) =
+      omega (arith, pow-over j to (omega arith), pow-mono l, pow-mono {i = j} {j = to} (omega arith), mul-sub (2 ^ j) (2 ^ (to - j)) 1) in
+      let q : (2 ^ to - 2 ^ from) / 2 ^ j ≡ 2 ^ (to - j) - 1 = ap (λ (n : ℕ). n / 2 ^ j) e ∙ high (2 ^ (to - j) - 1) j (omega (arith, pow-pos from, pow-pos j)) in
+      omega (arith, q, pow-over 1 (to - j) (omega arith), pow-pos (to - j))
 
--- marks of which n from a on were set
-module _ (l : List ℕ) (a n : ℕ) (fits : a + n ≤ length l) where
-  front : length (take a l) ≡ a
-  front = length-take-le a l (omega arith)
+  ones-before : j < from → from ≤ to → (2 ^ to - 2 ^ from) / 2 ^ j % 2 ≡ 0
+  ones-before l h =
+      let e : 2 ^ to - 2 ^ from ≡ (2 ^ (to - j) - 2 ^ (from - j)) * 2 ^ j + 0 =
+      omega (arith, pow-over j to (omega arith), pow-over j from (omega arith), mul-sub (2 ^ j) (2 ^ (to - j)) (2 ^ (from - j))) in
+      let q : (2 ^ to - 2 ^ from) / 2 ^ j ≡ 2 ^ (to - j) - 2 ^ (from - j) = ap (λ (n : ℕ). n / 2 ^ j) e ∙ high (2 ^ (to - j) - 2 ^ (from - j)) j (pow-pos j) in
+      omega (arith, q, pow-over 1 (to - j) (omega arith), pow-over 1 (from - j) (omega arith))
 
-  ones : length (replicate {A = ℕ} n 1) ≡ n
-  ones = length-replicate n 1
+  ones-after : to ≤ j → (2 ^ to - 2 ^ from) / 2 ^ j % 2 ≡ 0
+  ones-after h = omega (arith, div-eq-of-lt {n = 2 ^ to - 2 ^ from} {m = 2 ^ j} (omega (arith, pow-mono h, pow-pos from, pow-pos to)))
 
-  set-before : (i : ℕ) → i < a → getD (splice l a (replicate n 1)) i 0 ≡ getD l i 0
-  unfolding splice
-  set-before i h =
-      List·getD-append (take a l) (replicate n 1 ++ drop (a + length (replicate {A = ℕ} n 1)) l) 0 i (omega (arith, front)) ∙ getD-take a l i 0 h
-
-  pub set-within : (i : ℕ) → a ≤ i → i < a + n → getD (splice l a (replicate n 1)) i 0 ≡ 1
-  unfolding splice
-  set-within i h k =
-      past (take a l) (replicate n 1 ++ drop (a + length (replicate {A = ℕ} n 1)) l) a i front h
-      ∙ List·getD-append (replicate n 1) (drop (a + length (replicate {A = ℕ} n 1)) l) 0 (i - a) (omega (arith, ones))
-      ∙ getD-replicate n (i - a) 1 0 (omega arith)
-
-  set-after : (i : ℕ) → a + n ≤ i → getD (splice l a (replicate n 1)) i 0 ≡ getD l i 0
-  unfolding splice
-  set-after i h =
-      let j : a + length (replicate {A = ℕ} n 1) + (i - a - n) ≡ i = omega (arith, ones) in
-      past (take a l) (replicate n 1 ++ drop (a + length (replicate {A = ℕ} n 1)) l) a i front (omega arith)
-      ∙ past (replicate n 1) (drop (a + length (replicate {A = ℕ} n 1)) l) n (i - a) ones (omega arith)
-      ∙ getD-drop (a + length (replicate {A = ℕ} n 1)) l (i - a - n) 0
-      ∙ ap (λ (x : ℕ). getD l x 0) j
-
-  pub set-out : (i : ℕ) → (a ≤ i → i < a + n → ⊥) → getD (splice l a (replicate n 1)) i 0 ≡ getD l i 0
-  set-out i f = go (decLe a i) (decLe (a + n) i)
+  ones-other : from ≤ to → (from ≤ j → j < to → ⊥) → (2 ^ to - 2 ^ from) / 2 ^ j % 2 ≡ 0
+  ones-other h f = go (decLe from j) (decLe to j)
     where
-      go : Dec (a ≤ i) → Dec (a + n ≤ i) → getD (splice l a (replicate n 1)) i 0 ≡ getD l i 0
-      go (no h) k = set-before i (omega arith)
-      go (yes h) (yes k) = set-after i k
-      go (yes h) (no k) = absurd (f h (omega arith))
+      go : Dec (from ≤ j) → Dec (to ≤ j) → (2 ^ to - 2 ^ from) / 2 ^ j % 2 ≡ 0
+      go (no k) d = ones-before (omega arith) h
+      go (yes k) (yes d) = ones-after d
+      go (yes k) (no d) = absurd (f k (omega arith))
 
--- marks from a up to b that were lent, and came back set
-pub lent-claimed : (marks m : List ℕ) (a b : ℕ) → a ≤ b → b ≤ length marks → m ≡ replicate (length (take (b - a) (drop a marks))) 1
-    → (length (take a marks ++ (m ++ drop (b - a) (drop a marks))) ≡ length marks) × (take a marks ++ (m ++ drop (b - a) (drop a marks)) ≡ splice marks a (replicate (b - a) 1))
-lent-claimed marks m a b low high e =
-    let n : length (take (b - a) (drop a marks)) ≡ b - a = length-take-le (b - a) (drop a marks) (omega (arith, length-drop a marks)) in
-    let f : m ≡ replicate (b - a) 1 = e ∙ ap (λ (x : ℕ). replicate x 1) n in
-    let g : length m ≡ b - a = ap length f ∙ length-replicate {A = ℕ} (b - a) 1 in
-    let r = lent-back marks a b m g in
-    (ap length r ∙ splice-length marks a m (omega arith), r ∙ ap (splice marks a) f)
+-- the word w with the ones from `from` up to `to`
+module _ (w from to : ℕ) where
+  and-none : bitAnd w (2 ^ to - 2 ^ from) ≡ 0 → (j : ℕ) → from ≤ j → j < to → w / 2 ^ j % 2 ≡ 0
+  and-none e j l h = omega (arith, and-bit w (2 ^ to - 2 ^ from) j, zero-bits (bitAnd w (2 ^ to - 2 ^ from)) j e, ones-own from to j l h)
 
--- two tests that say yes together are one
-pub agree : (a b : Bool) → (a ≡ true → b ≡ true) → (b ≡ true → a ≡ true) → a ≡ b
-agree true b f g = sym (f refl)
-agree false true f g = g refl
-agree false false f g = refl
+  none-and : from ≤ to → ((j : ℕ) → from ≤ j → j < to → w / 2 ^ j % 2 ≡ 0) → bitAnd w (2 ^ to - 2 ^ from) ≡ 0
+  none-and up f = bits-zero (bitAnd w (2 ^ to - 2 ^ from)) (λ j. go j (decLe from j) (decLe to j))
+    where
+      go : (j : ℕ) → Dec (from ≤ j) → Dec (to ≤ j) → bitAnd w (2 ^ to - 2 ^ from) / 2 ^ j % 2 ≡ 0
+      go j (no k) d = omega (arith, and-bit w (2 ^ to - 2 ^ from) j, ones-before from to j (omega arith) up)
+      go j (yes k) (yes d) = omega (arith, and-bit w (2 ^ to - 2 ^ from) j, ones-after from to j d)
+      go j (yes k) (no d) = omega (arith, and-bit w (2 ^ to - 2 ^ from) j, f j k (omega arith))
 
--- the turns of the loop that sets marks and collects what they were
-or-none : (a b : ℕ) → eqb (bitOr a b) 0 ≡ (eqb a 0 && eqb b 0)
-or-none a b = agree (eqb (bitOr a b) 0) (eqb a 0 && eqb b 0) down up
-  where
-    down : eqb (bitOr a b) 0 ≡ true → (eqb a 0 && eqb b 0) ≡ true
-    down e =
-        let z : bitOr a b ≡ 0 = eqb-true (bitOr a b) 0 e in
-        let x : a ≡ 0 = omega (arith, z, or-add-and a b, and-le-r a b) in
-        let y : b ≡ 0 = omega (arith, z, or-add-and a b, and-le-l a b) in
-        rw (eq-eqb a 0 x, eq-eqb b 0 y) refl
+  or-own : (j : ℕ) → from ≤ j → j < to → bitOr w (2 ^ to - 2 ^ from) / 2 ^ j % 2 ≡ 1
+  or-own j l h = omega (arith, or-bit w (2 ^ to - 2 ^ from) j, ones-own from to j l h)
 
-    up : (eqb a 0 && eqb b 0) ≡ true → eqb (bitOr a b) 0 ≡ true
-    up e =
-        let f = both (eqb a 0) (eqb b 0) e in
-        eq-eqb (bitOr a b) 0 (ap (λ (n : ℕ). bitOr n b) (eqb-true a 0 (f .0)) ∙ or-zero-l b ∙ eqb-true b 0 (f .1))
+  or-other : from ≤ to → (j : ℕ) → (from ≤ j → j < to → ⊥) → bitOr w (2 ^ to - 2 ^ from) / 2 ^ j % 2 ≡ w / 2 ^ j % 2
+  or-other up j f = omega (arith, or-bit w (2 ^ to - 2 ^ from) j, ones-other from to j up f)
 
-and-assoc : (a b c : Bool) → (a && (b && c)) ≡ ((a && b) && c)
-and-assoc true b c = refl
-and-assoc false b c = refl
+-- the mark at x, by a word of the list
+mark-in : (marks : List ℕ) (x k : ℕ) → x / 64 ≡ k → markAt marks x ≡ getD marks k 0 / 2 ^ (x % 64) % 2
+unfolding markAt
+mark-in marks x k e = ap (λ (n : ℕ). getD marks n 0 / 2 ^ (x % 64) % 2) e
 
-and-true : (a : Bool) → (a && true) ≡ a
-and-true true = refl
-and-true false = refl
+-- and once a word is set
+module _ (marks : List ℕ) (x k w : ℕ) where
+  mark-set : x / 64 ≡ k → k < length marks → markAt (set marks k w) x ≡ w / 2 ^ (x % 64) % 2
+  mark-set e h = mark-in (set marks k w) x k e ∙ ap (λ (n : ℕ). n / 2 ^ (x % 64) % 2) (getD-set-same marks k w 0 h)
 
-none-drop : (d : List ℕ) (i : ℕ) → i < length d → noneSet (drop i d) ≡ (eqb (getD d i 0) 0 && noneSet (drop (i + 1) d))
-unfolding noneSet
-none-drop d i h = rw (drop-cons d i 0 h, add-one) refl
+  mark-kept : x / 64 ≢ k → markAt (set marks k w) x ≡ markAt marks x
+  unfolding markAt
+  mark-kept e = ap (λ (n : ℕ). n / 2 ^ (x % 64) % 2) (getD-set-other marks k (x / 64) w 0 e)
 
-pub seen-more : (d l : List ℕ) (i seen : ℕ) → l ≡ replicate i 1 ++ drop i d → noneSet d ≡ (eqb seen 0 && noneSet (drop i d)) → i < length d
-    → noneSet d ≡ (eqb (bitOr seen (getD l i 0)) 0 && noneSet (drop (i + 1) d))
-seen-more d l i seen e f h =
-    let z : i + (i - i) ≡ i = omega arith in
-    let g : getD l i 0 ≡ getD d i 0 =
-    ap (λ (m : List ℕ). getD m i 0) e ∙ past (replicate i 1) (drop i d) i i (length-replicate {A = ℕ} i 1) (omega arith) ∙ getD-drop i d (i - i) 0 ∙ ap (λ (x : ℕ). getD d x 0) z in
-    f ∙ ap (λ (x : Bool). eqb seen 0 && x) (none-drop d i h) ∙ and-assoc (eqb seen 0) (eqb (getD d i 0) 0) (noneSet (drop (i + 1) d))
-    ∙ ap (λ (x : Bool). x && noneSet (drop (i + 1) d)) (sym (ap (λ (m : ℕ). eqb (bitOr seen m) 0) g ∙ or-none seen (getD d i 0)))
+-- the marks of one word from i on: those of its bits up to `to`
+module _ (marks : List ℕ) (i to own : ℕ) (low : i % 64 < to) (top : to ≤ 64) (is : own ≡ 2 ^ to - 2 ^ (i % 64)) where
+  abbrev word : ℕ
+  word = getD marks (i / 64) 0
 
-pub seen-all : (d : List ℕ) (i seen : ℕ) → noneSet d ≡ (eqb seen 0 && noneSet (drop i d)) → length d ≤ i → eqb seen 0 ≡ noneSet d
-unfolding noneSet
-seen-all d i seen f h = sym (f ∙ rw (drop-of-length-le d {i = i} h) (and-true (eqb seen 0)))
+  pub word-unset : bitAnd word own ≡ 0 → Unset marks i (i + (to - i % 64))
+  word-unset e x l h =
+      mark-in marks x (i / 64) (omega arith) ∙ and-none word (i % 64) to (ap (bitAnd word) (sym is) ∙ e) (x % 64) (omega arith) (omega arith)
+
+  pub unset-word : Unset marks i (i + (to - i % 64)) → bitAnd word own ≡ 0
+  unset-word f = ap (bitAnd word) is ∙ none-and word (i % 64) to (omega arith) each
+    where
+      each : (j : ℕ) → i % 64 ≤ j → j < to → word / 2 ^ j % 2 ≡ 0
+      each j l h =
+          let x = i + (j - i % 64) in
+          let e : x % 64 ≡ j = omega arith in
+          ap (λ (n : ℕ). word / 2 ^ n % 2) (sym e) ∙ sym (mark-in marks x (i / 64) (omega arith)) ∙ f x (omega arith) (omega arith)
+
+  module _ (fits : i / 64 < length marks) where
+    abbrev next : List ℕ
+    next = set marks (i / 64) (bitOr word own)
+
+    next-in : (x : ℕ) → x / 64 ≡ i / 64 → markAt next x ≡ bitOr word (2 ^ to - 2 ^ (i % 64)) / 2 ^ (x % 64) % 2
+    next-in x e =
+        mark-set marks x (i / 64) (bitOr word own) e fits ∙ ap (λ (n : ℕ). bitOr word n / 2 ^ (x % 64) % 2) is
+
+    next-other : (x : ℕ) → (i ≤ x → x < i + (to - i % 64) → ⊥) → markAt next x ≡ markAt marks x
+    next-other x f = go (ℕ-discrete (x / 64) (i / 64))
+      where
+        go : Dec (x / 64 ≡ i / 64) → markAt next x ≡ markAt marks x
+        go (no k) = mark-kept marks x (i / 64) (bitOr word own) k
+        go (yes k) =
+            next-in x k ∙ or-other word (i % 64) to (omega arith) (x % 64) (λ l h. f (omega arith) (omega arith)) ∙ sym (mark-in marks x (i / 64) k)
+
+    pub word-marked : Marked marks i (i + (to - i % 64)) next
+    word-marked =
+        record {
+          own = λ x l h. next-in x (omega arith) ∙ or-own word (i % 64) to (x % 64) (omega arith) (omega arith);
+          others = next-other;
+        }
+
+-- marks of which those from a up to i are set, and those from i up to n next
+module _ (were marks : List ℕ) (a i n : ℕ) (up : a ≤ i) (m : Marked were a i marks) where
+  pub unset-more : Unset were a i → Unset marks i n → Unset were a n
+  unset-more f g x l h = go (decLe i x)
+    where
+      go : Dec (i ≤ x) → markAt were x ≡ 0
+      go (yes k) = sym (m .others x (λ j u. omega arith)) ∙ g x k h
+      go (no k) = f x l (omega arith)
+
+  pub unset-rest : Unset were a n → Unset marks i n
+  unset-rest f x l h = m .others x (λ j u. omega arith) ∙ f x (omega arith) h
+
+  pub marked-more : i ≤ n → (are : List ℕ) → Marked marks i n are → Marked were a n are
+  marked-more k are p = record { own = within; others = λ x f. p .others x (λ l h. f (omega arith) h) ∙ m .others x (λ l h. f l (omega arith)) }
+    where
+      within : (x : ℕ) → a ≤ x → x < n → markAt are x ≡ 1
+      within x l h = go (decLe i x)
+        where
+          go : Dec (i ≤ x) → markAt are x ≡ 1
+          go (yes d) = p .own x d h
+          go (no d) = p .others x (λ j u. omega arith) ∙ m .own x l (omega arith)

@@ -1,42 +1,34 @@
--- The test for shared bytes by marks: a mark for each cell of eight bytes, a window of them at a time, set where a segment that was seen has a byte.
--- Nodes are multiples of 8, so two segments share a byte exactly where they share a cell.
-use mathlib.Core.Bool.{Bool, true, _&&_}
-use mathlib.Core.List.{List, [], _∷_}
-use Prim.Native.Nat.{ℕ, zero, suc, _+_, _-_, _/_, min}
-use lib.Dec.{eqb}
-use lib.ListN.{take, drop, replicate}
-use Rattle.words.specs.Word.{splice}
+-- The test for shared bytes by marks: a bit for each cell of eight bytes, 64 of them in a word, a window of words at a time, set where a segment that was
+-- seen has a byte. Nodes are multiples of 8, so two segments share a byte exactly where they share a cell.
+use mathlib.Core.Path.{_≡_}
+use mathlib.Core.Bool.{Bool, true, false}
+use mathlib.Core.List.{List}
+use Prim.Native.Nat.{ℕ, _*_, _/_, _%_, _^_, _≤_, _<_}
+use lib.ListN.{getD}
 use Rattle.freelist.specs.Segs.{Seg, endOf}
 
--- the cells of a window
-abbrev pub window : ℕ
-window = 16384
+-- cell c has a byte of s
+abbrev pub Holds : Seg → ℕ → Type 0
+Holds s c = (s .offset / 8 ≤ c) × (c * 8 < endOf s)
 
--- where the mark of a cell stands among those from the cell base on: the first or past the last for a cell before or after them
-abbrev pub markOf : ℕ → ℕ → ℕ
-markOf base cell = min (cell - base) window
+-- no cell from lo up to hi has a byte of both
+abbrev pub Free : ℕ → ℕ → Seg → Seg → Type 0
+Free lo hi s t = (c : ℕ) → lo ≤ c → c < hi → Holds s c → Holds t c → ⊥
 
--- the marks of a segment's cells
-abbrev pub markFrom : ℕ → Seg → ℕ
-markFrom base s = markOf base (s .offset / 8)
+-- the mark at i: 1 where it is set
+unfoldable pub markAt : List ℕ → ℕ → ℕ
+markAt marks i = getD marks (i / 64) 0 / 2 ^ (i % 64) % 2
 
-abbrev pub markTo : ℕ → Seg → ℕ
-markTo base s = markOf base ((endOf s + 7) / 8)
+-- the marks from a up to b are not set
+abbrev pub Unset : List ℕ → ℕ → ℕ → Type 0
+Unset marks a b = (i : ℕ) → a ≤ i → i < b → markAt marks i ≡ 0
 
--- no mark is set
-unfoldable pub noneSet : List ℕ → Bool
-noneSet [] = true
-noneSet (m ∷ ms) = eqb m 0 && noneSet ms
+-- of the marks that were, those from a up to b are set now, and the others are as they were
+pub record Marked (were : List ℕ) (a b : ℕ) (are : List ℕ) : Type 0 where
+  pub own : (i : ℕ) → a ≤ i → i < b → markAt are i ≡ 1
+  pub others : (i : ℕ) → (a ≤ i → i < b → ⊥) → markAt are i ≡ markAt were i
 
--- each segment finds its marks unset, and sets them
-unfoldable pub claims : ℕ → List ℕ → List Seg → Bool
-claims base marks [] = true
-claims base marks (s ∷ ss) =
-    let a = markFrom base s in
-    let n = markTo base s - a in
-    noneSet (take n (drop a marks)) && claims base (splice marks a (replicate n 1)) ss
-
--- so in n windows from the cell base on
-unfoldable pub claimsAll : ℕ → ℕ → List Seg → Bool
-claimsAll zero base ss = true
-claimsAll (suc n) base ss = claims base (replicate window 0) ss && claimsAll n (base + window) ss
+-- a yes says that it holds, a no that it does not
+abbrev pub Tells : Bool → Type 0 → Type 0
+Tells true p = p
+Tells false p = p → ⊥

@@ -8,16 +8,16 @@ use records::Shape;
 ghost use mathlib.Core.Path.{_≡_};
 ghost use mathlib.Core.Logic.{_≢_};
 ghost use mathlib.Core.Bool.{true};
-ghost use Prim.Native.Nat.{_+_, _-_, _≤_, _<_};
+ghost use Prim.Native.Nat.{_+_, _-_, _*_, _^_, min, _≤_, _<_};
 ghost use lib.ListN.{length, replicate};
 ghost use Rattle.words.specs.Word.{wordAt, endMark};
-ghost use Rattle.freelist.specs.Segs.{leads, segAt, All, EndsBy, InRange, Run};
+ghost use Rattle.freelist.specs.Segs.{leads, segAt, All, Pairwise, EndsBy, InRange, Run};
 ghost use Rattle.freelist.specs.Check.{after, passed, inRange, shares, meets, anyAbove, Walked};
 ghost use Rattle.freelist.specs.Place.{any};
 ghost use Rattle.freelist.specs.Link.{linkBytes, linkHead, sizes, passes, Stands, Spotted, Inserted, Removed};
 ghost use Rattle.freelist.specs.Sound.{sound, surveyed};
 ghost use Rattle.freelist.specs.Split.{rangedRun, walkFrom, apartb};
-ghost use Rattle.freelist.specs.Marks.{window, markOf, noneSet, claims, claimsAll};
+ghost use Rattle.freelist.specs.Marks.{Free, Unset, Marked, Tells};
 
 // The end mark: where a list ends, and what stands before its first node.
 const END_MARK: usize = 4294967295;
@@ -28,12 +28,17 @@ const HALF: u64 = 4294967296;
 // The bytes of a node before its data.
 const NODE_SIZE: usize = 8;
 
-// The bytes of a cell, the cells that have a mark at a time, and the bytes of these.
+// The bytes of a cell, which has one mark, and the marks of a word.
 const CELL: usize = 8;
 
-const WINDOW: usize = 16384;
+const WORD: usize = 64;
 
-const SPAN: usize = 131072;
+// The cells of a window and their bytes, and the bytes of the cells of a small one.
+const WINDOW: usize = 65536;
+
+const SPAN: usize = 524288;
+
+const SMALL_SPAN: usize = 65536;
 
 // A test of a node: may this segment stand before it, has it room for so many bytes, has it a byte from `from` up to
 // `to`, does it end above this offset.
@@ -244,50 +249,69 @@ fn apart_pairs(buf: &[u8], head: usize, count: usize) -> bool
     true
 }
 
-// Where the mark of a cell stands among those from the cell `base` on: the first or past the last for a cell before or
-// after them.
-fn mark_of(base: usize, cell: usize) -> usize
-    ensures { λ r. ⌜ r ≡ markOf base cell ⌝ }
+// Where the mark of a cell stands among `marks` of them from that of the cell `base` on: the first or past the last for a
+// cell before or after them.
+fn mark_of(base: usize, marks: usize, cell: usize) -> usize
+    ensures { λ r. ⌜ r ≡ min (cell - base) marks ⌝ }
 {
     if cell < base {
         return 0;
     }
-    if WINDOW < cell - base {
-        return WINDOW;
+    if marks < cell - base {
+        return marks;
     }
     cell - base
 }
 
-// Sets every mark: whether none was set. It doesn't stop at the first, so that the compiler takes many in one step.
-fn claim(marks: &mut [u8]) -> bool
-    ensures { λ r. ⌜ r ≡ noneSet (now (marks .entry)) ⌝ }
-    ensures { λ r. ⌜ now (marks .exit) ≡ replicate (length (now (marks .entry))) 1 ⌝ }
+// The bits of a word from `from` up to `to`.
+fn bits(from: usize, to: usize) -> u64
+    requires { ⌜ (from < to) × (to ≤ 64) ⌝ }
+    ensures { λ r. ⌜ r ≡ 2 ^ to - 2 ^ from ⌝ }
 {
-    let mut seen: u8 = 0;
-    let mut i: usize = 0;
-    while i < marks.len() {
-        seen = seen | marks[i];
-        marks[i] = 1;
-        i += 1;
-    }
-    seen == 0
+    let below = (1u64 << from) - 1;
+    (18446744073709551615 >> (64 - to)) - below
 }
 
-// Whether each of the first `count` nodes from `head` finds the marks of its cells unset: it sets them then.
-fn claim_run(buf: &[u8], head: usize, count: usize, base: usize, marks: &mut [u8]) -> bool
-    requires { ⌜ All (EndsBy (length (now buf))) (passed (wordAt (now buf)) count head) ⌝ }
-    requires { ⌜ length (now marks) ≡ window ⌝ }
-    ensures { λ r. ⌜ r ≡ claims base (now (marks .entry)) (passed (wordAt (now (buf .entry))) count head) ⌝ }
+// Whether the marks from a up to b are unset: it sets them then, a word at a time.
+fn claim(marks: &mut [u64], a: usize, b: usize) -> bool
+    requires { ⌜ b ≤ length (now marks) * 64 ⌝ }
+    ensures { λ r. ⌜ Tells r (Unset (now (marks .entry)) a b) ⌝ }
+    ensures { λ r. ⌜ (r ≡ true → Marked (now (marks .entry)) a b (now (marks .exit))) ⌝ }
 {
+    let mut i = a;
+    while i < b {
+        let from = i % WORD;
+        let mut to = WORD;
+        if b - i < WORD - from {
+            to = from + (b - i);
+        }
+        let word = marks[i / WORD];
+        let own = bits(from, to);
+        if word & own != 0 {
+            return false;
+        }
+        marks[i / WORD] = word | own;
+        i += to - from;
+    }
+    true
+}
+
+// Whether no two of the first `count` nodes from `head` share a cell of those from `base` on that have a mark, all of them
+// unset: each node finds the marks of its cells unset, and sets them.
+fn claim_run(buf: &[u8], head: usize, count: usize, base: usize, marks: &mut [u64]) -> bool
+    requires { ⌜ All (EndsBy (length (now buf))) (passed (wordAt (now buf)) count head) ⌝ }
+    requires { ⌜ (now marks ≡ replicate (length (now marks)) 0) × (length (now marks) ≤ 1024) ⌝ }
+    ensures { λ r. ⌜ Tells r (Pairwise (Free base (base + length (now (marks .entry)) * 64)) (passed (wordAt (now (buf .entry))) count head)) ⌝ }
+{
+    let room = marks.len() * WORD;
     let mut p = head;
     let mut left = count;
     while 0 < left {
         let node = words::node_at(buf, p);
         let end = p + NODE_SIZE + node.size as usize;
-        let a = mark_of(base, p / CELL);
-        let b = mark_of(base, (end + 7) / CELL);
-        let free = claim(&mut marks[a..b]);
-        if !free {
+        let a = mark_of(base, room, p / CELL);
+        let b = mark_of(base, room, (end + 7) / CELL);
+        if !claim(marks, a, b) {
             return false;
         }
         p = node.next as usize;
@@ -296,25 +320,34 @@ fn claim_run(buf: &[u8], head: usize, count: usize, base: usize, marks: &mut [u8
     true
 }
 
-// The same with new marks, all of them unset.
-fn window_clear(buf: &[u8], head: usize, count: usize, base: usize) -> bool
+// Whether no two of the first `count` nodes from `head` share a cell of the first small window.
+fn small_window_apart(buf: &[u8], head: usize, count: usize) -> bool
     requires { ⌜ All (EndsBy (length (now buf))) (passed (wordAt (now buf)) count head) ⌝ }
-    ensures { λ r. ⌜ r ≡ claims base (replicate window 0) (passed (wordAt (now (buf .entry))) count head) ⌝ }
+    ensures { λ r. ⌜ Tells r (Pairwise (Free 0 8192) (passed (wordAt (now (buf .entry))) count head)) ⌝ }
 {
-    let mut marks: [u8; 16384] = [0; 16384];
+    let mut marks: [u64; 128] = [0; 128];
+    claim_run(buf, head, count, 0, &mut marks)
+}
+
+// Whether they share no cell of the window from the cell `base` on.
+fn window_apart(buf: &[u8], head: usize, count: usize, base: usize) -> bool
+    requires { ⌜ All (EndsBy (length (now buf))) (passed (wordAt (now buf)) count head) ⌝ }
+    ensures { λ r. ⌜ Tells r (Pairwise (Free base (base + 65536)) (passed (wordAt (now (buf .entry))) count head)) ⌝ }
+{
+    let mut marks: [u64; 1024] = [0; 1024];
     claim_run(buf, head, count, base, &mut marks)
 }
 
-// Whether no two of the first `count` nodes from `head` share a byte, by marks, window after window.
-fn apart_marks(buf: &[u8], head: usize, count: usize, windows: usize) -> bool
+// Whether they share no cell of so many windows, which follow each other.
+fn windows_apart(buf: &[u8], head: usize, count: usize, windows: usize) -> bool
     requires { ⌜ All (EndsBy (length (now buf))) (passed (wordAt (now buf)) count head) ⌝ }
-    requires { ⌜ windows ≤ 281474976710656 ⌝ }
-    ensures { λ r. ⌜ r ≡ claimsAll windows 0 (passed (wordAt (now (buf .entry))) count head) ⌝ }
+    requires { ⌜ windows < 281474976710656 ⌝ }
+    ensures { λ r. ⌜ Tells r (Pairwise (Free 0 (windows * 65536)) (passed (wordAt (now (buf .entry))) count head)) ⌝ }
 {
     let mut base = 0;
     let mut left = windows;
     while 0 < left {
-        if !window_clear(buf, head, count, base) {
+        if !window_apart(buf, head, count, base) {
             return false;
         }
         base += WINDOW;
@@ -330,11 +363,17 @@ fn apart_run(buf: &[u8], head: usize, count: usize, top: usize) -> bool
     requires { ⌜ All (InRange 0 top) (passed (wordAt (now buf)) count head) ⌝ }
     ensures { λ r. ⌜ r ≡ apartb (passed (wordAt (now (buf .entry))) count head) ⌝ }
 {
-    let windows = (top + (SPAN - 1)) / SPAN;
-    if count / 8 < windows + 2 {
+    if count < 8 {
         return apart_pairs(buf, head, count);
     }
-    apart_marks(buf, head, count, windows)
+    if top <= SMALL_SPAN {
+        return small_window_apart(buf, head, count);
+    }
+    let windows = (top + (SPAN - 1)) / SPAN;
+    if count / 4 < windows + 2 {
+        return apart_pairs(buf, head, count);
+    }
+    windows_apart(buf, head, count, windows)
 }
 
 // The soundness check of any header over any bytes, with the number of the free segments.

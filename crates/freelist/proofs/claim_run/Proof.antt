@@ -1,42 +1,46 @@
--- `freelist::claim_run` meets its contract. The invariant: what is asked of the whole list with the marks at first is asked of the nodes that are left with
--- the marks as they are. The measure is the number of nodes left.
+-- `freelist::claim_run` meets its contract. The invariant: no two nodes of the whole list share a cell exactly where those that are left can claim the marks
+-- as they are. The measure is the number of nodes left.
 -- Assumes nothing.
-use borrow.Author.Needs.{needs}
-use mathlib.Core.Path.{_≡_, sym, refl, ap, _∙_}
-use Prim.Native.Nat.{ℕ, _+_, _-_, _/_}
+use mathlib.Core.Path.{_≡_, refl, _∙_}
+use mathlib.Core.Logic.{_↔_, Iff·trans}
+use mathlib.Core.Bool.{true}
+use Prim.Native.Nat.{_+_, _-_, _*_, _/_, min}
 use native.Mathlib.Omega.{arith}
 use denote.Ref.{now}
 use borrow.Author.Tests.{not-true, not-false}
 use lib.ListN.{length}
 use Rattle.words.specs.Word.{wordAt}
-use Rattle.freelist.specs.Segs.{All, EndsBy, segAt, nextAt}
+use Rattle.freelist.specs.Segs.{All, Pairwise, EndsBy, segAt, nextAt, endOf}
 use Rattle.freelist.specs.Check.{passed}
-use Rattle.freelist.specs.Marks.{window, markOf, markTo, claims}
-use Rattle.freelist.proofs.Runs.{all-pop}
-use Rattle.freelist.proofs.Marks.{lent-claimed}
-use Rattle.freelist.proofs.Claims.{claim-hit, claim-goes, claim-left}
+use Rattle.freelist.specs.Marks.{Free}
+use Rattle.freelist.proofs.Runs.{passed-pop, all-pop}
+use Rattle.freelist.proofs.Claims.{Claimable, tells-yes, tells-no, claim-hit, claim-goes, claim-left, new-claimable}
 use Rattle.freelist.proofs.claim_run.Statement.{statement}
 use Rattle.freelist.proofs.claim_run.Tie as tie
 
 abbrev Inv-loop : tie.InvT-loop
-Inv-loop buf head count base marks₀ p₀ left₀ marks p left =
-    (length marks ≡ window) × (length marks ≡ length marks₀) × All (EndsBy (length buf)) (passed (wordAt buf) left p) × (claims base marks₀ (passed (wordAt buf) count head) ≡ claims base marks (passed (wordAt buf) left p))
+Inv-loop buf head count base marks₀ room p₀ left₀ marks p left =
+    (length marks ≡ length marks₀) × All (EndsBy (length buf)) (passed (wordAt buf) left p) × (Pairwise (Free base (base + length marks₀ * 64)) (passed (wordAt buf) count head) ↔ Claimable base marks (passed (wordAt buf) left p))
 
 abbrev μ-loop : tie.MeasureT-loop
-μ-loop buf head count base marks₀ p₀ left₀ marks p left = left
+μ-loop buf head count base marks₀ room p₀ left₀ marks p left = left
 
 -- the first of the nodes that are left, and the others
 parts : (c : tie.In-loop Inv-loop μ-loop) → let b = now (c .before .before .before .before .args .buf) in let i = c .before .loop in EndsBy (length b) (segAt (wordAt b) (i .p)) × All (EndsBy (length b)) (passed (wordAt b) (i .left - 1) (nextAt (wordAt b) (i .p)))
-parts c = all-pop _ (EndsBy _) _ _ (c .loop-test .taken) (c .before .loop .inv .2)
+parts c = all-pop _ (EndsBy _) _ _ (c .loop-test .taken) (c .before .loop .inv .1)
 
--- where its marks end
-ends : (c : tie.After-mark-of2 Inv-loop μ-loop) → let t = c .before .before .before .before in let a = t .before .before .before .before .args in c .mark-of2 .result ≡ markTo (a .base) (segAt (wordAt (now (a .buf))) (t .before .loop .p))
-ends c =
-    let t = c .before .before .before .before in
-    c .mark-of2 .ensures ∙ ap (λ (n : ℕ). markOf (t .before .before .before .before .args .base) ((t .before .loop .p + 8 + n + 7) / 8)) (c .before .before .before .node-at .ensures .sized)
+-- where its marks start, and where they end
+starts : (c : tie.After-mark-of2 Inv-loop μ-loop) → let t = c .before .before .before .before in c .before .mark-of .result ≡ min (t .before .loop .p / 8 - t .before .before .before .before .args .base) (length (t .before .loop .marks) * 64)
+starts c = omega arith
+
+ends : (c : tie.After-mark-of2 Inv-loop μ-loop) → let t = c .before .before .before .before in let a = t .before .before .before .before .args in c .mark-of2 .result ≡ min ((endOf (segAt (wordAt (now (a .buf))) (t .before .loop .p)) + 7) / 8 - a .base) (length (t .before .loop .marks) * 64)
+ends c = omega arith
+
+mul-room : tie.Need-mul-room Inv-loop μ-loop
+mul-room c = omega arith
 
 loop-holds : tie.Need-loop-holds Inv-loop μ-loop
-loop-holds c = (c .before .before .pre .1, refl, c .before .before .pre .0, refl)
+loop-holds c = let s = c .before .before in (refl, s .pre .0, new-claimable _ _ (s .pre .1 .0) (passed (wordAt (now (s .args .buf))) (s .args .count) (s .args .head)))
 
 node-at-requires : tie.Need-node-at-requires Inv-loop μ-loop
 node-at-requires c κs = omega (arith, parts c .0)
@@ -59,30 +63,20 @@ add-mark-of c = omega (arith, parts (c .before .before .before) .0)
 mark-of-requires-2 : tie.Need-mark-of-requires-2 Inv-loop μ-loop
 mark-of-requires-2 c κs = tt
 
-sub-claim : tie.Need-sub-claim Inv-loop μ-loop
-sub-claim c = omega arith
-
-part-claim-start : tie.Need-part-claim-start Inv-loop μ-loop
-part-claim-start c = search needs
-
-part-claim-end : tie.Need-part-claim-end Inv-loop μ-loop
-part-claim-end c = omega arith
-
 claim-requires : tie.Need-claim-requires Inv-loop μ-loop
-claim-requires c κs = tt
+claim-requires c κs = omega (arith, ends (c .before))
 
 same-length : tie.Need-same-length Inv-loop μ-loop
-same-length c =
-    let q = c .before .before .before in
-    let m = q .before .before in
-    lent-claimed _ _ (m .before .mark-of .result) (m .mark-of2 .result) (omega arith) (omega arith) (q .claim .ensures .1) .0 ∙ m .before .before .before .before .before .loop .inv .1
+same-length c = c .before .before .before .claim .kept .0 ∙ c .before .before .before .before .before .before .before .before .before .before .loop .inv .0
 
 returns : tie.Need-returns Inv-loop μ-loop
-returns c =
+returns c h =
     let q = c .before .before .before in
     let m = q .before .before in
     let t = m .before .before .before .before in
-    sym (t .before .loop .inv .3 ∙ claim-hit _ _ _ _ _ _ _ (m .before .mark-of .ensures) (ends m) (t .loop-test .taken) (sym (q .claim .ensures .0) ∙ not-true _ (c .if1 .taken)))
+    let i = t .before .loop in
+    claim-hit _ (i .marks) _ _ _ (starts m) (ends m) _ _ (passed-pop _ _ _ (t .loop-test .taken))
+    (tells-no (q .claim .result) _ (not-true _ (c .if1 .taken)) (q .claim .ensures .0)) (i .inv .2 .0 h)
 
 cast-p : tie.Need-cast-p Inv-loop μ-loop
 cast-p c = omega arith
@@ -98,16 +92,17 @@ loop-again c =
     let q = c .before .before .before .before in
     let m = q .before .before in
     let t = m .before .before .before .before in
-    let i = t .before .loop .inv in
-    let g = claim-goes _ _ _ _ _ _ _ (m .before .mark-of .ensures) (ends m) (q .claim .last .0) (i .0) (t .loop-test .taken) (q .claim .ensures .1) (sym (q .claim .ensures .0) ∙ not-false _ (c .before .if1 .left)) in
+    let i = t .before .loop in
+    let yes : q .claim .result ≡ true = not-false _ (c .before .if1 .left) in
+    let unset = tells-yes (q .claim .result) _ yes (q .claim .ensures .0) in
     rw (m .before .before .before .node-at .ensures .nexted)
-    (g .0, g .0 ∙ sym (i .0) ∙ i .1, parts t .1, i .3 ∙ g .1)
+    (q .claim .kept .0 ∙ i .inv .0, parts t .1, Iff·trans (i .inv .2) (claim-goes _ (i .marks) _ _ _ (starts m) (ends m) _ _ (passed-pop _ _ _ (t .loop-test .taken)) _ (q .claim .kept .0) (q .claim .ensures .1 yes) unset))
 
 same-length-2 : tie.Need-same-length-2 Inv-loop μ-loop
-same-length-2 c = c .before .loop .inv .1
+same-length-2 c = c .before .loop .inv .0
 
 returns-2 : tie.Need-returns-2 Inv-loop μ-loop
-returns-2 c = sym (c .before .loop .inv .3 ∙ claim-left _ _ _ _ _ (c .loop-test .left))
+returns-2 c = c .before .loop .inv .2 .1 (claim-left _ _ (c .before .loop .marks) _ _ (c .loop-test .left))
 
 pub claim-run-spec : {M : Type 1} → statement M
 claim-run-spec =
@@ -115,6 +110,7 @@ claim-run-spec =
     (tie.spec
     Inv-loop
     μ-loop
+    mul-room
     loop-holds
     node-at-requires
     add-end
@@ -123,9 +119,6 @@ claim-run-spec =
     mark-of-requires
     add-mark-of
     mark-of-requires-2
-    sub-claim
-    part-claim-start
-    part-claim-end
     claim-requires
     same-length
     returns
