@@ -1,15 +1,17 @@
 -- The answers of `taking`, `fromTop`, `pastTop` and `look`, in the order of their tests.
 -- Assumes nothing.
 use Prim.Native.Nat.{ℕ, _-_, _≤_, _<_}
-use mathlib.Core.Path.{_≡_, refl}
-use mathlib.Core.Bool.{true, false}
+use mathlib.Core.Path.{_≡_, refl, _∙_}
+use mathlib.Core.Bool.{true, false, not, _&&_}
 use mathlib.Core.List.{List, [], _∷_}
 use native.Mathlib.Omega.{arith}
-use borrow.Author.Tests.{leb-true, le-leb, lt-leb, le-ltb, lt-ltb}
+use borrow.Author.Tests.{not-true, leb-true, le-leb, lt-leb, le-ltb, lt-ltb}
+use lib.Dec.{leb}
 use lib.ListN.{length}
 use Rattle.words.specs.Word.{sizeHalf, endMark, zeroed}
 use Rattle.records.specs.Answer.{leaves, refuses, granted, nothing}
 use Rattle.records.specs.Head.{headSound}
+use Rattle.records.proofs.Facts.{both, picked}
 use Rattle.records.specs.Change.{withTop}
 use Rattle.records.specs.declared.Order.{Order}
 use Rattle.records.specs.declared.Order.the-variants.{Optimistic, Pessimistic}
@@ -17,8 +19,8 @@ use Rattle.records.specs.declared.Freelist.the-variants.{None, Ordered}
 use Rattle.records.specs.declared.Shape.{Shape}
 use Rattle.records.specs.declared.Header.{Header}
 use Rattle.records.specs.declared.Request.{Request}
-use Rattle.requests.specs.Request.{wellFormed, plain, forNothing, want, need, asked, block, Planned}
-use Rattle.requests.proofs.Plans.{plain-formed, plain-plain}
+use Rattle.requests.specs.Request.{wellFormed, plain, forNothing, want, topEnd, need, asked, block, Planned}
+use Rattle.requests.proofs.Plans.{top-met, top-past}
 use Rattle.freelist.specs.Segs.{Seg, Run}
 use Rattle.freelist.specs.Link.{Spotted, passes}
 use Rattle.freelist.specs.Sound.{sound, free}
@@ -26,8 +28,50 @@ use Rattle.freelist.specs.declared.Spot.{Spot}
 use Rattle.freelist.specs.declared.Test.the-variants.{Room}
 use Rattle.freelist.proofs.Places.{place-passes}
 use Rattle.arena.specs.Take.{taking, fromTop, pastTop, fromList, look, headFit, firstFit, serve, found, missed, nowhere}
-use Rattle.arena.specs.Look.{Admitted, Looked}
+use Rattle.arena.specs.Look.{endAtTop, Looked}
 use Rattle.arena.specs.declared.Lookup.the-variants.{Hit}
+
+-- where a request that the top meets ends, by its tests in turn
+module _ (s : Shape) (h : Header) (n : ℕ) (r : Request) where
+  pub ends-read-only : s .«read_only» ≡ true → 0 ≡ endAtTop s h n r
+  unfolding endAtTop
+  ends-read-only e = simp e
+
+  module _ (writable : s .«read_only» ≡ false) where
+    pub ends-damaged : headSound s h n ≡ false → 0 ≡ endAtTop s h n r
+    unfolding endAtTop
+    ends-damaged e = simp (writable, e)
+
+    pub ends-open : headSound s h n ≡ true → topEnd (s .cap) (h .allocated) r ≡ endAtTop s h n r
+    unfolding endAtTop
+    ends-open e = simp (writable, e)
+
+-- a request past the tests of the first refusals, simplified as p
+pub record Admitted (s : Shape) (h : Header) (n : ℕ) (r p : Request) : Type 0 where
+  pub writable : s .«read_only» ≡ false
+  pub formed : wellFormed r ≡ true
+  pub head : headSound s h n ≡ true
+  pub simple : p ≡ plain r
+
+-- one that the top meets, which ends at `end`
+pub record Met (s : Shape) (h : Header) (n : ℕ) (r p : Request) (end : ℕ) : Type 0 where
+  pub admitted : Admitted s h n r p
+  pub some : forNothing p ≡ false
+  pub is : end ≡ want (h .allocated) p
+  pub within : end ≤ s .cap
+
+pub met : (s : Shape) (h : Header) (n : ℕ) (r p : Request) (end : ℕ) → p ≡ plain r → end ≡ endAtTop s h n r → 0 < end → Met s h n r p end
+unfolding endAtTop
+met s h n r p end simple e some =
+    let a = picked (not (s .«read_only») && headSound s h n) (topEnd (s .cap) (h .allocated) r) end e some in
+    let b = both _ _ (a .0) in
+    let m = top-met (s .cap) (h .allocated) r end (a .1) some in
+    record {
+      admitted = record { writable = not-true _ (b .0); formed = m .0; head = b .1; simple = simple };
+      some = rw simple (m .1);
+      is = rw simple (m .2);
+      within = m .3;
+    }
 
 module _ (s : Shape) (h : Header) (l : List ℕ) (r : Request) where
   pub takes-read-only : s .«read_only» ≡ true → refuses 1 [] h l ≡ taking s h l r
@@ -39,45 +83,37 @@ module _ (s : Shape) (h : Header) (l : List ℕ) (r : Request) where
     unfolding taking
     takes-bad-layout e = simp (writable, e)
 
-    module _ (formed : wellFormed r ≡ true) where
-      pub takes-damaged : headSound s h (length l) ≡ false → refuses 4 [] h l ≡ taking s h l r
-      unfolding taking
-      takes-damaged e = simp (writable, formed, e)
-
-      -- p is the request simplified
-      module _ (head : headSound s h (length l) ≡ true) (p : Request) (is : p ≡ plain r) where
-        pub takes-nothing : forNothing p ≡ true → leaves nothing h l ≡ taking s h l r
-        unfolding taking
-        takes-nothing e = simp (writable, formed, head, ← is, e)
-
-        pub takes-some : forNothing p ≡ false → Admitted s h l p
-        takes-some e =
-            record { writable = writable; formed = rw is (plain-formed r formed); head = head; simple = rw is (plain-plain r); some = e }
-
-        pub takes-simple : taking s h l p ≡ taking s h l r
-        unfolding taking
-        takes-simple = simp (is, plain-plain r, formed, plain-formed r formed)
-
-  -- the room at the top ends at n
-  module _ (k : Admitted s h l r) (n : ℕ) (is : n ≡ want (h .allocated) r) where
-    pub takes-top : n ≤ s .cap → fromTop h l r ≡ taking s h l r
+    pub takes-damaged : wellFormed r ≡ true → headSound s h (length l) ≡ false → refuses 4 [] h l ≡ taking s h l r
     unfolding taking
-    takes-top e = simp (k .writable, k .formed, k .head, k .simple, k .some, ← is, le-leb _ _ e)
+    takes-damaged formed e = simp (writable, formed, e)
 
-    module _ (past : s .cap < n) where
+  module _ (p : Request) (k : Admitted s h (length l) r p) where
+    pub takes-nothing : forNothing p ≡ true → leaves nothing h l ≡ taking s h l r
+    unfolding taking
+    takes-nothing e = simp (k .writable, k .formed, k .head, ← (k .simple), e)
+
+    -- the top does not meet a request for something
+    module _ (some : forNothing p ≡ false) (past : endAtTop s h (length l) r ≡ 0) where
+      passes-cap : leb (want (h .allocated) p) (s .cap) ≡ false
+      passes-cap =
+          rw (k .simple) (top-past (s .cap) (h .allocated) r (k .formed) (rw (k .simple) at some) (ends-open s h (length l) r (k .writable) (k .head) ∙ past))
+
       pub takes-unsound : sound s h l ≡ false → refuses 4 [] h l ≡ taking s h l r
       unfolding taking
-      takes-unsound e = simp (k .writable, k .formed, k .head, k .simple, k .some, ← is, lt-leb _ _ past, e)
+      takes-unsound e = simp (k .writable, k .formed, k .head, ← (k .simple), some, passes-cap, e)
 
-      pub takes-past : sound s h l ≡ true → pastTop (s .freelist) s h l r ≡ taking s h l r
+      pub takes-past : sound s h l ≡ true → pastTop (s .freelist) s h l p ≡ taking s h l r
       unfolding taking
-      takes-past e = simp (k .writable, k .formed, k .head, k .simple, k .some, ← is, lt-leb _ _ past, e)
+      takes-past e = simp (k .writable, k .formed, k .head, ← (k .simple), some, passes-cap, e)
 
 -- from the top: the block is made of the room's three numbers
-pub takes-room : (h h₁ : Header) (l l₁ : List ℕ) (r : Request) (wanted at from : ℕ) → Planned (h .allocated) r wanted at from → h₁ ≡ withTop h wanted → l₁ ≡ zeroed l from wanted
-    → leaves (granted (block (h .allocated) (wanted - h .allocated) at (wanted - at))) h₁ l₁ ≡ fromTop h l r
-unfolding fromTop
-takes-room h h₁ l l₁ r wanted at from p e f = rw (e, f, p .recorded, p .is, p .zeroed) refl
+pub takes-room : (s : Shape) (h h₁ : Header) (l l₁ : List ℕ) (r p : Request) (end at from : ℕ) → Met s h (length l) r p end → Planned (h .allocated) p end at from
+    → h₁ ≡ withTop h end → l₁ ≡ zeroed l from end
+    → leaves (granted (block (h .allocated) (end - h .allocated) at (end - at))) h₁ l₁ ≡ taking s h l r
+unfolding taking fromTop
+takes-room s h h₁ l l₁ r p end at from m room f g =
+    let k = m .admitted in
+    simp (f, g, k .writable, k .formed, k .head, ← (k .simple), m .some, ← (room .is), le-leb _ _ (m .within), ← (room .recorded), ← (room .zeroed))
 
 -- past the top, by the policy and by what the search of the list finds
 module _ (s : Shape) (h : Header) (l : List ℕ) (r : Request) where

@@ -1,17 +1,18 @@
 -- What the code is told of a request and of a node, and tells of a search and of a block, beside the definitions of `Take`.
 use Prim.Native.Nat.{ℕ, _+_, _≤_, _<_}
 use mathlib.Core.Path.{_≡_}
-use mathlib.Core.Bool.{true, false}
+use mathlib.Core.Bool.{not, _&&_}
 use mathlib.Core.List.{List}
 use lib.ListN.{length, getD}
 use Rattle.words.specs.Word.{zeroed}
+use Rattle.records.specs.Pick.{pick}
 use Rattle.records.specs.Answer.{Outcome, leaves, granted}
 use Rattle.records.specs.Head.{headSound}
 use Rattle.records.specs.declared.Order.{Order}
 use Rattle.records.specs.declared.Shape.{Shape}
 use Rattle.records.specs.declared.Header.{Header}
 use Rattle.records.specs.declared.Request.{Request}
-use Rattle.requests.specs.Request.{wellFormed, plain, forNothing, need, listBlock}
+use Rattle.requests.specs.Request.{topEnd, need, listBlock}
 use Rattle.freelist.specs.Segs.{Seg}
 use Rattle.freelist.specs.Link.{Stands}
 use Rattle.freelist.specs.declared.Spot.{Spot}
@@ -19,13 +20,9 @@ use Rattle.arena.specs.Take.{look, found, missed, nowhere}
 use Rattle.arena.specs.declared.Lookup.{Lookup}
 use Rattle.arena.specs.declared.Lookup.the-variants.{Hit, Miss}
 
--- a simplified request for something, past the tests of the first refusals
-pub record Admitted (s : Shape) (h : Header) (l : List ℕ) (r : Request) : Type 0 where
-  pub writable : s .«read_only» ≡ false
-  pub formed : wellFormed r ≡ true
-  pub head : headSound s h (length l) ≡ true
-  pub simple : plain r ≡ r
-  pub some : forNothing r ≡ false
+-- 01: requests 1, 5, head 4, zero size, top: where a request that comes to the top and is met there ends, and 0 for any other
+unfoldable pub endAtTop : Shape → Header → ℕ → Request → ℕ
+endAtTop s h n r = pick (not (s .«read_only») && headSound s h n) (topEnd (s .cap) (h .allocated) r) 0
 
 -- the node at this place of the list has room for n bytes
 pub record Serves (segs : List Seg) (n : ℕ) (spot : Spot) : Type 0 where

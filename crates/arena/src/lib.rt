@@ -14,19 +14,18 @@ use records::Reply;
 use records::Request;
 use records::Segment;
 use records::Shape;
-use requests::Room;
 ghost use mathlib.Core.Path.{_≡_};
-ghost use mathlib.Core.Bool.{true};
-ghost use Prim.Native.Nat.{_+_, _-_, _≤_};
+ghost use mathlib.Core.Bool.{true, false};
+ghost use Prim.Native.Nat.{_+_, _-_, _≤_, _<_};
 ghost use lib.ListN.{length};
 ghost use Rattle.records.specs.Answer.{outcome};
 ghost use Rattle.records.specs.Setup.{limit};
 ghost use Rattle.records.specs.declared.Freelist.the-variants.{Ordered};
 ghost use Rattle.records.specs.declared.Request.the-variants.{Bytes, Typed, Aligned};
-ghost use Rattle.requests.specs.Request.{wellFormed, need, Planned};
+ghost use Rattle.requests.specs.Request.{wellFormed, need};
 ghost use Rattle.freelist.specs.Sound.{sound, free};
-ghost use Rattle.arena.specs.Take.{taking, fromTop, pastTop, serve};
-ghost use Rattle.arena.specs.Look.{Admitted, Serves, Looked, handedOut};
+ghost use Rattle.arena.specs.Take.{taking, pastTop, serve};
+ghost use Rattle.arena.specs.Look.{endAtTop, Serves, Looked, handedOut};
 ghost use Rattle.arena.specs.Give.{belowTop, givingBack};
 ghost use Rattle.arena.specs.Rewind.{discarding, rewinding, setting, settingMinimum, addingDiscarded};
 
@@ -39,25 +38,39 @@ enum Lookup {
     Miss(u32),
 }
 
-// A request served from the top: `room` is what it takes there, which ends within the buffer.
-fn take_top(header: Header, buf: &mut [u8], request: Request, room: Room) -> Reply
-    requires { ⌜ Planned (header .allocated) request (room .want) (room .at) (room .from) ⌝ }
-    requires { ⌜ (room .want ≤ length (now buf)) × (length (now buf) ≤ limit) ⌝ }
-    ensures { λ r. ⌜ outcome r (now (buf .exit)) ≡ fromTop header (now (buf .entry)) request ⌝ }
+// Where a request that the top meets ends; 0 for any other.
+fn end_at_top(shape: Shape, header: Header, buf: &[u8], request: Request) -> usize
+    ensures { λ r. ⌜ r ≡ endAtTop shape header (length (now (buf .entry))) request ⌝ }
 {
-    words::clear_range(buf, room.from, room.want);
+    if shape.read_only {
+        return 0;
+    }
+    if !records::head_sound(shape, header, buf) {
+        return 0;
+    }
+    requests::top_end(shape.cap, header.allocated, request)
+}
+
+// A request that the top meets and that ends at `want`. The shape is there for the contract alone.
+fn take_top(shape: Shape, header: Header, buf: &mut [u8], request: Request, want: usize) -> Reply
+    requires { ⌜ want ≡ endAtTop shape header (length (now buf)) request ⌝ }
+    requires { ⌜ 0 < want ⌝ }
+    ensures { λ r. ⌜ outcome r (now (buf .exit)) ≡ taking shape header (now (buf .entry)) request ⌝ }
+{
     let top = header.allocated;
-    let want = room.want as u32;
+    let room = requests::at_top(top, requests::simplify(request));
+    words::clear_range(buf, room.from, want);
+    let end = want as u32;
     let at = room.at as u32;
     let block = Block {
         memory_offset: top,
-        memory_size: want - top,
+        memory_size: end - top,
         usable_offset: at,
-        usable_size: want - at,
+        usable_size: end - at,
     };
     Reply {
         answer: Answer::Granted(block),
-        header: records::with_top(header, want),
+        header: records::with_top(header, end),
     }
 }
 
@@ -184,26 +197,9 @@ fn past_top(shape: Shape, header: Header, buf: &mut [u8], count: usize, request:
     }
 }
 
-// A simplified request for something: from the top where it fits, which asks nothing of the list, and else from the list.
-fn take_some(shape: Shape, header: Header, buf: &mut [u8], request: Request) -> Reply
-    requires { ⌜ Admitted shape header (now buf) request ⌝ }
-    ensures { λ r. ⌜ outcome r (now (buf .exit)) ≡ taking shape header (now (buf .entry)) request ⌝ }
-{
-    let room = requests::at_top(header.allocated, request);
-    if room.want <= shape.cap as usize {
-        return take_top(header, buf, request, room);
-    }
-    let Finding::Sound(count) = freelist::survey(shape, header, buf) else {
-        return Reply {
-            answer: Answer::Damaged,
-            header,
-        };
-    };
-    past_top(shape, header, buf, count, request)
-}
-
-// Any request, as one value: the three calls below name its cases.
-pub fn take(shape: Shape, header: Header, buf: &mut [u8], request: Request) -> Reply
+// A request that the top does not meet: it is refused, is for nothing, or is served from the list.
+fn take_else(shape: Shape, header: Header, buf: &mut [u8], request: Request) -> Reply
+    requires { ⌜ endAtTop shape header (length (now buf)) request ≡ 0 ⌝ }
     ensures { λ r. ⌜ outcome r (now (buf .exit)) ≡ taking shape header (now (buf .entry)) request ⌝ }
 {
     if shape.read_only {
@@ -231,21 +227,49 @@ pub fn take(shape: Shape, header: Header, buf: &mut [u8], request: Request) -> R
             header,
         };
     }
-    take_some(shape, header, buf, plain)
+    let Finding::Sound(count) = freelist::survey(shape, header, buf) else {
+        return Reply {
+            answer: Answer::Damaged,
+            header,
+        };
+    };
+    past_top(shape, header, buf, count, plain)
+}
+
+// Any request, as one value. The three calls after it are the same for one case each. They are written out, since each is
+// then compiled with the top's part inside it, and a request that the top meets costs no call.
+pub fn take(shape: Shape, header: Header, buf: &mut [u8], request: Request) -> Reply
+    ensures { λ r. ⌜ outcome r (now (buf .exit)) ≡ taking shape header (now (buf .entry)) request ⌝ }
+{
+    let want = end_at_top(shape, header, buf, request);
+    if 0 < want {
+        return take_top(shape, header, buf, request, want);
+    }
+    take_else(shape, header, buf, request)
 }
 
 // `size` bytes, zeroed.
 pub fn alloc_bytes(shape: Shape, header: Header, buf: &mut [u8], size: u32) -> Reply
     ensures { λ r. ⌜ outcome r (now (buf .exit)) ≡ taking shape header (now (buf .entry)) (Bytes size) ⌝ }
 {
-    take(shape, header, buf, Request::Bytes(size))
+    let request = Request::Bytes(size);
+    let want = end_at_top(shape, header, buf, request);
+    if 0 < want {
+        return take_top(shape, header, buf, request, want);
+    }
+    take_else(shape, header, buf, request)
 }
 
 // A value of this size and alignment.
 pub fn alloc(shape: Shape, header: Header, buf: &mut [u8], size: u32, align: u32) -> Reply
     ensures { λ r. ⌜ outcome r (now (buf .exit)) ≡ taking shape header (now (buf .entry)) (Typed size align) ⌝ }
 {
-    take(shape, header, buf, Request::Typed { size, align })
+    let request = Request::Typed { size, align };
+    let want = end_at_top(shape, header, buf, request);
+    if 0 < want {
+        return take_top(shape, header, buf, request, want);
+    }
+    take_else(shape, header, buf, request)
 }
 
 // A value of this size and alignment with `extra` bytes behind it, not zeroed where the top meets it.
@@ -259,7 +283,12 @@ pub fn alloc_aligned_bytes(
 ) -> Reply
     ensures { λ r. ⌜ outcome r (now (buf .exit)) ≡ taking shape header (now (buf .entry)) (Aligned size align extra) ⌝ }
 {
-    take(shape, header, buf, Request::Aligned { size, align, extra })
+    let request = Request::Aligned { size, align, extra };
+    let want = end_at_top(shape, header, buf, request);
+    if 0 < want {
+        return take_top(shape, header, buf, request, want);
+    }
+    take_else(shape, header, buf, request)
 }
 
 // A memory range below the top goes back: to the list where the policy has one and the segment rule accepts the range,

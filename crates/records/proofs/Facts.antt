@@ -1,6 +1,7 @@
 -- Tests taken apart, and a choice by a test; from the head's test to its facts, and back.
 -- Assumes nothing.
-use Prim.Native.Nat.{ℕ}
+use Prim.Native.Nat.{ℕ, _<_}
+use native.Mathlib.Omega.{arith}
 use mathlib.Core.Path.{_≡_, refl}
 use mathlib.Core.Bool.{Bool, true, false, _&&_, _||_, and-eq-true-iff, true≢false}
 use borrow.Author.Tests.{leb-true, eqb-true, le-leb, eq-eqb}
@@ -27,6 +28,11 @@ fails false never = refl
 pub pick-either : {A : Type 0} (P : A → Type 0) (t : Bool) (a b : A) → (t ≡ true → P a) → (t ≡ false → P b) → P (pick t a b)
 pick-either P true a b f g = f refl
 pick-either P false a b f g = g refl
+
+-- a choice that is above 0, where the other way is 0
+pub picked : (t : Bool) (a n : ℕ) → n ≡ pick t a 0 → 0 < n → (t ≡ true) × (n ≡ a)
+picked true a n e h = (refl, e)
+picked false a n e h = absurd (omega (arith, e))
 
 module _ (s : Shape) (h : Header) (n : ℕ) where
   pub head-facts : headSound s h n ≡ true → Head s h n

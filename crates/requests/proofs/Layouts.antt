@@ -1,9 +1,10 @@
 -- From the tests of a layout and of a request to their facts, and back.
 -- Assumes nothing.
 use Prim.Native.Nat.{ℕ, _-_, _%_, _≤_, _<_}
-use mathlib.Core.Path.{_≡_, refl}
-use mathlib.Core.Bool.{Bool, true, false, false≢true}
-use borrow.Author.Tests.{leb-true, leb-false, eqb-true, le-leb, lt-leb}
+use mathlib.Core.Path.{_≡_, refl, sym, _∙_}
+use mathlib.Core.Bool.{Bool, true, false, _&&_, and-true, false≢true}
+use native.Mathlib.Omega.{arith}
+use borrow.Author.Tests.{leb-true, leb-false, eqb-true, le-leb, lt-leb, eq-eqb}
 use lib.Dec.{leb, eqb}
 use lib.Bits.{bitAnd}
 use Rattle.words.specs.Align.{goodAlign}
@@ -13,7 +14,7 @@ use Rattle.records.specs.Setup.{limit}
 use Rattle.records.specs.declared.Request.{Request}
 use Rattle.records.specs.declared.Request.the-variants.{Bytes, Typed, Aligned}
 use Rattle.records.proofs.Facts.{both}
-use Rattle.requests.specs.Request.{goodLayout, wellFormed}
+use Rattle.requests.specs.Request.{layoutOf, goodLayout, wellFormed}
 
 -- a good alignment is at most 4096
 pub good-small : (a : ℕ) → goodAlign a ≡ true → a ≤ 4096
@@ -25,7 +26,7 @@ good-small a good = elim (leb a 4096) as (λ (t : Bool). leb a 4096 ≡ t → a 
 ] refl
 
 -- a size and an alignment that may be asked for together
-pub record Layout (size align : ℕ) : Type 0 where
+pub record GoodLayout (size align : ℕ) : Type 0 where
   pub within : size ≤ limit
   pub good : goodAlign align ≡ true
   pub whole : size % align ≡ 0
@@ -34,7 +35,7 @@ pub record Layout (size align : ℕ) : Type 0 where
 
 module _ (size align : ℕ) where
   -- what the test says
-  pub layout-facts : goodLayout size align ≡ true → Layout size align
+  pub layout-facts : goodLayout size align ≡ true → GoodLayout size align
   unfolding goodLayout
   layout-facts e =
       let a = both _ _ e in
@@ -63,6 +64,16 @@ module _ (size align : ℕ) where
     unfolding goodLayout
     layout-mask e = simp (le-leb _ _ within, e, good-mask align e size)
 
+-- the test of a request in numbers
+pub formed-laid : (r : Request) → wellFormed r ≡ (leb (layoutOf r .extra) limit && goodLayout (layoutOf r .size) (layoutOf r .align))
+unfolding wellFormed layoutOf goodLayout goodAlign
+formed-laid (Bytes n) = simp (eq-eqb (n % 1) 0 (omega arith), and-true (leb n limit))
+formed-laid (Typed size align) = refl
+formed-laid (Aligned size align extra) = refl
+
+pub laid-formed : (r : Request) → wellFormed r ≡ true → GoodLayout (layoutOf r .size) (layoutOf r .align) × (layoutOf r .extra ≤ limit)
+laid-formed r h = let a = both _ _ (sym (formed-laid r) ∙ h) in (layout-facts _ _ (a .1), leb-true _ _ (a .0))
+
 -- bytes within the limit
 pub formed-bytes : (n : ℕ) → n ≤ limit → wellFormed (Bytes n) ≡ true
 unfolding wellFormed
@@ -75,11 +86,11 @@ module _ {r : Request} where
   bytes-formed e h = leb-true _ _ (rw e at h)
 
   -- a well-formed typed request has a good layout
-  pub typed-formed : {size align : ℕ} → r ≡ Typed size align → wellFormed r ≡ true → Layout size align
+  pub typed-formed : {size align : ℕ} → r ≡ Typed size align → wellFormed r ≡ true → GoodLayout size align
   unfolding wellFormed
   typed-formed e h = layout-facts _ _ (rw e at h)
 
   -- well-formed aligned bytes have a good layout, and their extra keeps to the limit
-  pub aligned-formed : {size align extra : ℕ} → r ≡ Aligned size align extra → wellFormed r ≡ true → Layout size align × (extra ≤ limit)
+  pub aligned-formed : {size align extra : ℕ} → r ≡ Aligned size align extra → wellFormed r ≡ true → GoodLayout size align × (extra ≤ limit)
   unfolding wellFormed
   aligned-formed e h = let a = both _ _ (rw e at h) in (layout-facts _ _ (a .1), leb-true _ _ (a .0))

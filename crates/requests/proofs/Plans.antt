@@ -1,19 +1,21 @@
 -- What a request wants at the top, needs of a segment and records: the orders between these numbers, for every well-formed request.
 -- Assumes nothing.
 use Prim.Native.Nat.{ℕ, _+_, _-_, _≤_, _<_}
-use mathlib.Core.Path.{_≡_, refl}
-use mathlib.Core.Bool.{Bool, true, false}
+use mathlib.Core.Path.{_≡_, refl, sym, _∙_}
+use mathlib.Core.Bool.{Bool, true, false, not, _&&_}
 use native.Mathlib.Omega.{arith}
 use native.Mathlib.Nat.{add-sub-cancel-left}
-use borrow.Author.Tests.{eqb-false, ne-eqb}
-use lib.Dec.{eqb}
+use borrow.Author.Tests.{eqb-false, ne-eqb, not-true, leb-true}
+use lib.Dec.{eqb, leb}
 use Rattle.words.specs.Round.{roundUp}
 use Rattle.words.proofs.Rounding.{round-ge, round-lt}
 use Rattle.records.specs.Pick.{pick}
+use Rattle.records.proofs.Facts.{both, fails, picked}
 use Rattle.records.specs.declared.Block.{Block}
 use Rattle.records.specs.declared.Request.{Request}
 use Rattle.records.specs.declared.Request.the-variants.{Bytes, Typed, Aligned}
-use Rattle.requests.specs.Request.{wellFormed, plain, forNothing, want, need, topBlock, zeroedFrom, listBlock, Planned, Needed}
+use Rattle.requests.specs.Request.{layoutOf, wellFormed, plain, forNothing, want, topEnd, need, topBlock, zeroedFrom, listBlock, Planned, Needed}
+use Rattle.requests.specs.declared.Layout.{Layout}
 use Rattle.requests.proofs.Layouts.{formed-bytes, bytes-formed, typed-formed, aligned-formed}
 
 -- the three numbers of a request at the top are in order, and its block is made of them
@@ -35,6 +37,25 @@ planned top (Aligned size align extra) h =
     let lt = round-lt align top (f .0 .some) in
     let rest : roundUp align top + size + extra - roundUp align top ≡ size + extra = omega arith in
     search (arith, rest)
+
+-- the numbers of a request by its layout
+pub need-laid : (r : Request) → layoutOf r .size + layoutOf r .align - 1 + layoutOf r .extra ≡ need r
+unfolding need layoutOf
+need-laid (Bytes n) = omega arith
+need-laid (Typed size align) = omega arith
+need-laid (Aligned size align extra) = omega arith
+
+at-laid : (top : ℕ) (r : Request) → roundUp (layoutOf r .align) top ≡ topBlock top r .«usable_offset»
+unfolding topBlock layoutOf roundUp
+at-laid top (Bytes n) = omega arith
+at-laid top (Typed size align) = refl
+at-laid top (Aligned size align extra) = refl
+
+want-laid : (top : ℕ) (r : Request) → roundUp (layoutOf r .align) top + layoutOf r .size + layoutOf r .extra ≡ want top r
+unfolding want layoutOf roundUp
+want-laid top (Bytes n) = omega arith
+want-laid top (Typed size align) = omega arith
+want-laid top (Aligned size align extra) = refl
 
 -- a need is small enough to be summed
 pub needed : (r : Request) → wellFormed r ≡ true → Needed r (need r)
@@ -79,6 +100,26 @@ zeroed-typed top size align = refl
 pub zeroed-aligned : (top size align extra : ℕ) → zeroedFrom top (Aligned size align extra) ≡ want top (Aligned size align extra)
 unfolding zeroedFrom want
 zeroed-aligned top size align extra = refl
+
+-- so a request at the top is planned by its layout y, by where zeroing starts
+module _ (top : ℕ) (r : Request) (formed : wellFormed r ≡ true) (y : Layout) (is : y ≡ layoutOf r) (at : ℕ) (start : at ≡ roundUp (y .align) top) where
+  usable : at ≡ topBlock top r .«usable_offset»
+  usable = rw is at start ∙ at-laid top r
+
+  wanted : at + y .size + y .extra ≡ want top r
+  wanted = rw (start, is) (want-laid top r)
+
+  plan : (from : ℕ) → from ≡ zeroedFrom top r → Planned top r (at + y .size + y .extra) at from
+  plan from f = rw (wanted, usable, f) (planned top r formed)
+
+  pub plan-bytes : {n : ℕ} → r ≡ Bytes n → Planned top r (at + y .size + y .extra) at at
+  plan-bytes e = plan at (usable ∙ rw e (sym (zeroed-bytes _ _)))
+
+  pub plan-typed : {size align : ℕ} → r ≡ Typed size align → Planned top r (at + y .size + y .extra) at at
+  plan-typed e = plan at (usable ∙ rw e (sym (zeroed-typed _ _ _)))
+
+  pub plan-aligned : {size align extra : ℕ} → r ≡ Aligned size align extra → Planned top r (at + y .size + y .extra) at (at + y .size + y .extra)
+  plan-aligned e = plan (at + y .size + y .extra) (wanted ∙ rw e (sym (zeroed-aligned _ _ _ _)))
 
 -- the usable part of a typed block of a segment ends within the memory
 pub list-typed-end : (p m size align : ℕ) → wellFormed (Typed size align) ≡ true → need (Typed size align) ≤ m
@@ -158,3 +199,18 @@ want-above top r formed =
     (λ size align h some. omega (arith, round-ge align top (typed-formed refl h .some), eqb-false size 0 some))
     (λ size align extra large h some. omega (arith, round-ge align top (aligned-formed refl h .0 .some)))
     r (plain-formed r formed)
+
+module _ (cap top : ℕ) (r : Request) where
+  -- a request that the top meets
+  pub top-met : (end : ℕ) → end ≡ topEnd cap top r → 0 < end → (wellFormed r ≡ true) × (forNothing (plain r) ≡ false) × (end ≡ want top (plain r)) × (end ≤ cap)
+  unfolding topEnd
+  top-met end e some =
+      let p = picked (wellFormed r && not (forNothing (plain r)) && leb (want top (plain r)) cap) (want top (plain r)) end e some in
+      let a = both _ _ (p .0) in
+      let b = both _ _ (a .0) in
+      (b .0, not-true _ (b .1), p .1, rw (p .1) (leb-true _ _ (a .1)))
+
+  -- one that would be met but for its end
+  pub top-past : wellFormed r ≡ true → forNothing (plain r) ≡ false → topEnd cap top r ≡ 0 → leb (want top (plain r)) cap ≡ false
+  unfolding topEnd
+  top-past formed some e = fails (leb (want top (plain r)) cap) (λ h. let z : want top (plain r) ≡ 0 = simp (formed, some, h) at e in omega (arith, z, want-above top r formed some))

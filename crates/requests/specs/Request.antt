@@ -1,7 +1,7 @@
 -- The three requests, on numbers alone: what is well-formed, wanted, needed and recorded. Document 01, 'Numbers that bound it' and 'Taking room'.
 use Prim.Native.Nat.{ℕ, _+_, _-_, _%_, _≤_}
 use mathlib.Core.Path.{_≡_}
-use mathlib.Core.Bool.{Bool, false, _&&_}
+use mathlib.Core.Bool.{Bool, false, not, _&&_}
 use lib.Dec.{leb, eqb}
 use Rattle.words.specs.Round.{roundUp}
 use Rattle.words.specs.Align.{goodAlign}
@@ -10,6 +10,7 @@ use Rattle.records.specs.Setup.{limit}
 use Rattle.records.specs.declared.Block.{Block}
 use Rattle.records.specs.declared.Request.{Request}
 use Rattle.records.specs.declared.Request.the-variants.{Bytes, Typed, Aligned}
+use Rattle.requests.specs.declared.Layout.{Layout}
 
 -- 01: sizes at most 1,073,741,824; alignment a power of two from 1 to 4,096; every size given with one is a multiple of it
 unfoldable pub goodLayout : ℕ → ℕ → Bool
@@ -20,6 +21,12 @@ unfoldable pub wellFormed : Request → Bool
 wellFormed (Bytes n) = leb n limit
 wellFormed (Typed size align) = goodLayout size align
 wellFormed (Aligned size align extra) = leb extra limit && goodLayout size align
+
+-- a request in three numbers: bytes have the alignment 1, and only aligned bytes have extra ones
+unfoldable pub layoutOf : Request → Layout
+layoutOf (Bytes n) = record { size = n; align = 1; extra = 0 }
+layoutOf (Typed size align) = record { size = size; align = align; extra = 0 }
+layoutOf (Aligned size align extra) = record { size = size; align = align; extra = extra }
 
 -- 01: aligned bytes: size 0 is a bytes request of extra, alignment dropped
 unfoldable pub plain : Request → Request
@@ -38,6 +45,11 @@ unfoldable pub want : ℕ → Request → ℕ
 want top (Bytes n) = top + n
 want top (Typed size align) = roundUp align top + size
 want top (Aligned size align extra) = roundUp align top + size + extra
+
+-- 01: the top meets a well-formed request for something that does not pass cap: where it ends then, and 0 for any other
+unfoldable pub topEnd : ℕ → ℕ → Request → ℕ
+topEnd cap top r =
+    pick (wellFormed r && not (forNothing (plain r)) && leb (want top (plain r)) cap) (want top (plain r)) 0
 
 -- 01: the need is n, size + align - 1, or that + extra
 unfoldable pub need : Request → ℕ

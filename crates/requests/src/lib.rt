@@ -6,7 +6,33 @@ ghost use mathlib.Core.Path.{_≡_};
 ghost use mathlib.Core.Bool.{true};
 ghost use Prim.Native.Nat.{_+_, _≤_};
 ghost use Rattle.records.specs.Setup.{limit};
-ghost use Rattle.requests.specs.Request.{wellFormed, goodLayout, plain, forNothing, asked, need, listBlock, Planned, Needed};
+ghost use Rattle.requests.specs.Request.{layoutOf, wellFormed, goodLayout, plain, forNothing, topEnd, asked, need, listBlock, Planned, Needed};
+
+// What a request asks for, in numbers: all that the three differ in at the top, but for what is zeroed there.
+pub struct Layout {
+    pub size: u32,
+    pub align: u32,
+    pub extra: u32,
+}
+
+// A request in numbers.
+fn layout_of(request: Request) -> Layout
+    ensures { λ r. ⌜ r ≡ layoutOf request ⌝ }
+{
+    match request {
+        Request::Bytes(n) => Layout {
+            size: n,
+            align: 1,
+            extra: 0,
+        },
+        Request::Typed { size, align } => Layout {
+            size,
+            align,
+            extra: 0,
+        },
+        Request::Aligned { size, align, extra } => Layout { size, align, extra },
+    }
+}
 
 // Whether a size and an alignment may be asked for together.
 fn good_layout(size: u32, align: u32) -> bool
@@ -25,16 +51,11 @@ fn good_layout(size: u32, align: u32) -> bool
 pub fn well_formed(request: Request) -> bool
     ensures { λ r. ⌜ r ≡ wellFormed request ⌝ }
 {
-    match request {
-        Request::Bytes(n) => n <= records::LIMIT,
-        Request::Typed { size, align } => good_layout(size, align),
-        Request::Aligned { size, align, extra } => {
-            if records::LIMIT < extra {
-                return false;
-            }
-            good_layout(size, align)
-        }
+    let layout = layout_of(request);
+    if records::LIMIT < layout.extra {
+        return false;
     }
+    good_layout(layout.size, layout.align)
 }
 
 // The request, its alignment dropped where it asks for extra bytes alone.
@@ -77,34 +98,39 @@ pub struct Room {
 
 // What a request takes at the top.
 pub fn at_top(top: u32, request: Request) -> Room
-    requires { ⌜ (wellFormed request ≡ true) × (top ≤ limit) ⌝ }
+    requires { ⌜ wellFormed request ≡ true ⌝ }
     ensures { λ r. ⌜ Planned top request (r .want) (r .at) (r .from) ⌝ }
 {
-    let start = top as usize;
+    let layout = layout_of(request);
+    let at = words::align_offset(top as usize, layout.align as usize);
+    let want = at + layout.size as usize + layout.extra as usize;
     match request {
-        Request::Bytes(n) => Room {
-            want: start + n as usize,
-            at: start,
-            from: start,
+        Request::Bytes(_) => Room { want, at, from: at },
+        Request::Typed { .. } => Room { want, at, from: at },
+        Request::Aligned { .. } => Room {
+            want,
+            at,
+            from: want,
         },
-        Request::Typed { size, align } => {
-            let at = words::align_offset(start, align as usize);
-            Room {
-                want: at + size as usize,
-                at,
-                from: at,
-            }
-        }
-        Request::Aligned { size, align, extra } => {
-            let at = words::align_offset(start, align as usize);
-            let want = at + size as usize + extra as usize;
-            Room {
-                want,
-                at,
-                from: want,
-            }
-        }
     }
+}
+
+// Where a request that the top meets ends; 0 for any other.
+pub fn top_end(cap: u32, top: u32, request: Request) -> usize
+    ensures { λ r. ⌜ r ≡ topEnd cap top request ⌝ }
+{
+    if !well_formed(request) {
+        return 0;
+    }
+    let plain = simplify(request);
+    if for_nothing(plain) {
+        return 0;
+    }
+    let want = at_top(top, plain).want;
+    if (cap as usize) < want {
+        return 0;
+    }
+    want
 }
 
 // The data size that a segment must have to serve the request.
@@ -112,12 +138,8 @@ pub fn need_of(request: Request) -> usize
     requires { ⌜ wellFormed request ≡ true ⌝ }
     ensures { λ r. ⌜ Needed request r ⌝ }
 {
-    match request {
-        Request::Bytes(n) => n as usize,
-        Request::Typed { size, align } => size as usize + align as usize - 1,
-        Request::Aligned { size, align, extra } => size as usize + align as usize - 1
-            + extra as usize,
-    }
+    let layout = layout_of(request);
+    layout.size as usize + layout.align as usize - 1 + layout.extra as usize
 }
 
 // What a refusal under policy None reports as requested.

@@ -1,12 +1,12 @@
 -- `requests::asked_of` meets its contract: each arm makes the number of `asked`, and a well-formed request bounds it. Assumes nothing.
 use native.Mathlib.Omega.{arith}
 use Rattle.requests.specs.Request.{asked}
-use Rattle.requests.proofs.Layouts.{Layout, bytes-formed, typed-formed, aligned-formed}
+use Rattle.requests.proofs.Layouts.{GoodLayout, bytes-formed, typed-formed, aligned-formed}
 use borrow.Author.Needs.{needs}
 use Rattle.requests.proofs.asked_of.Statement.{statement}
 use Rattle.requests.proofs.asked_of.Tie as tie
 
-typed : (c : tie.After-known-told2) → Layout (c .before .request2 .given .0 .0) (c .before .request2 .given .0 .1 .0)
+typed : (c : tie.After-known-told2) → GoodLayout (c .before .request2 .given .0 .0) (c .before .request2 .given .0 .1 .0)
 typed c = typed-formed (c .before .request2 .given .1) (c .before .before .before .pre .0)
 
 enum-known-request : tie.Need-enum-known-request

@@ -1,15 +1,15 @@
 -- `requests::list_block` meets its contract. A rounded offset stays within the memory, since the need counts the alignment. Assumes nothing.
 use native.Mathlib.Omega.{arith}
 use Rattle.requests.specs.Request.{need, listBlock}
-use Rattle.requests.proofs.Layouts.{Layout, typed-formed, aligned-formed}
+use Rattle.requests.proofs.Layouts.{GoodLayout, typed-formed, aligned-formed}
 use borrow.Author.Needs.{needs}
 use Rattle.requests.proofs.list_block.Statement.{statement}
 use Rattle.requests.proofs.list_block.Tie as tie
 
-typed : (c : tie.After-known-told2) → Layout (c .before .request2 .given .0 .0) (c .before .request2 .given .0 .1 .0)
+typed : (c : tie.After-known-told2) → GoodLayout (c .before .request2 .given .0 .0) (c .before .request2 .given .0 .1 .0)
 typed c = typed-formed (c .before .request2 .given .1) (c .before .before .before .pre .0)
 
-aligned : (c : tie.After-known-told3) → Layout (c .before .request3 .given .0 .0) (c .before .request3 .given .0 .1 .0)
+aligned : (c : tie.After-known-told3) → GoodLayout (c .before .request3 .given .0 .0) (c .before .request3 .given .0 .1 .0)
 aligned c = aligned-formed (c .before .request3 .given .1) (c .before .before .before .pre .0) .0
 
 enum-known-request : tie.Need-enum-known-request
