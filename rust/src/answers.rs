@@ -97,6 +97,7 @@ fn refusal(answer: raw::Answer) -> Refusal {
 }
 
 /// A request's answer; none where nothing was asked for.
+#[inline]
 pub(crate) fn taken(answer: raw::Answer) -> Result<Option<Block>, Refusal> {
     match answer.code {
         raw::GRANTED => Ok(Some(Block {
@@ -111,6 +112,7 @@ pub(crate) fn taken(answer: raw::Answer) -> Result<Option<Block>, Refusal> {
 }
 
 /// A give-back's answer.
+#[inline]
 pub(crate) fn given_back(answer: raw::Answer) -> Result<bool, Refusal> {
     match answer.code {
         raw::GIVEN_BACK => Ok(answer.first == 1),
@@ -119,6 +121,7 @@ pub(crate) fn given_back(answer: raw::Answer) -> Result<bool, Refusal> {
 }
 
 /// A discard's answer.
+#[inline]
 pub(crate) fn sum(answer: raw::Answer) -> Result<u32, Refusal> {
     match answer.code {
         raw::SUM => Ok(answer.first),
@@ -127,6 +130,7 @@ pub(crate) fn sum(answer: raw::Answer) -> Result<u32, Refusal> {
 }
 
 /// A rewind's or setter's answer.
+#[inline]
 pub(crate) fn done(answer: raw::Answer) -> Result<(), Refusal> {
     match answer.code {
         raw::DONE => Ok(()),

@@ -107,6 +107,7 @@ impl<'a> Arena<'a> {
     }
 
     /// `size` zeroed bytes; none for size 0.
+    #[inline]
     pub fn alloc_bytes(&mut self, size: u32) -> Result<Option<Block>, Refusal> {
         let (shape, header, buf, len) = self.parts();
         // Safety: header and buffer are valid for the call.
@@ -114,6 +115,7 @@ impl<'a> Arena<'a> {
     }
 
     /// Room for a value of `size` bytes at a multiple of `align`; none for size 0.
+    #[inline]
     pub fn alloc(&mut self, size: u32, align: u32) -> Result<Option<Block>, Refusal> {
         let (shape, header, buf, len) = self.parts();
         // Safety: header and buffer are valid for the call.
@@ -121,6 +123,7 @@ impl<'a> Arena<'a> {
     }
 
     /// Room for a value of `size` bytes at a multiple of `align` with `extra` bytes after it, not zeroed at the top.
+    #[inline]
     pub fn alloc_aligned_bytes(&mut self, size: u32, align: u32, extra: u32) -> Result<Option<Block>, Refusal> {
         let (shape, header, buf, len) = self.parts();
         // Safety: header and buffer are valid for the call.
@@ -128,6 +131,7 @@ impl<'a> Arena<'a> {
     }
 
     /// Gives a memory range back. False says that it was too small for a segment and is lost.
+    #[inline]
     pub fn dealloc(&mut self, offset: u32, size: u32) -> Result<bool, Refusal> {
         let (shape, header, buf, len) = self.parts();
         // Safety: header and buffer are valid for the call.
@@ -135,6 +139,7 @@ impl<'a> Arena<'a> {
     }
 
     /// Empties the free list and answers the sum of its data sizes.
+    #[inline]
     pub fn discard_freelist(&mut self) -> Result<u32, Refusal> {
         let (shape, header, buf, len) = self.parts();
         // Safety: header and buffer are valid for the call.
@@ -142,6 +147,7 @@ impl<'a> Arena<'a> {
     }
 
     /// Moves the top. Blocks whose bytes pass the new top are held no more.
+    #[inline]
     pub fn rewind(&mut self, position: Position) -> Result<(), Refusal> {
         let (shape, header, buf, len) = self.parts();
         // Safety: header and buffer are valid for the call.
@@ -155,6 +161,7 @@ impl<'a> Arena<'a> {
     }
 
     /// Sets the least data size of segments made from now on.
+    #[inline]
     pub fn set_minimum_segment_size(&mut self, size: u32) -> Result<(), Refusal> {
         let (shape, header, buf, len) = self.parts();
         // Safety: header and buffer are valid for the call.
@@ -162,6 +169,7 @@ impl<'a> Arena<'a> {
     }
 
     /// Adds to the count of lost bytes, which stops at its end.
+    #[inline]
     pub fn increase_discarded(&mut self, size: u32) -> Result<(), Refusal> {
         let (shape, header, buf, len) = self.parts();
         // Safety: header and buffer are valid for the call.
@@ -169,57 +177,68 @@ impl<'a> Arena<'a> {
     }
 
     /// Whether head and free list are as document 01 wants them.
+    #[inline]
     pub fn sound(&self) -> bool {
         // Safety: header and buffer are valid for the call.
         unsafe { raw::arena_sound(self.shape, &self.header, self.buf.as_ptr(), self.buf.len()) }
     }
 
     /// The room between the top and the buffer's end.
+    #[inline]
     pub fn remaining(&self) -> u32 {
         // Safety: the header is valid for the call.
         unsafe { raw::arena_remaining(self.shape, &self.header) }
     }
 
     /// The top: no byte from here on is in use.
+    #[inline]
     pub fn allocated(&self) -> u32 {
         self.header[2]
     }
 
     /// The count of lost bytes.
+    #[inline]
     pub fn discarded(&self) -> u32 {
         self.header[4]
     }
 
     /// The least data size of segments made from now on.
+    #[inline]
     pub fn minimum_segment_size(&self) -> u32 {
         self.header[3]
     }
 
     /// The usable bytes of a block; empty if its range leaves the buffer.
+    #[inline]
     pub fn bytes(&self, block: &Block) -> &[u8] {
         self.buf.get(usable(block)).unwrap_or_default()
     }
 
     /// The usable bytes of a block, for writing; empty if its range leaves the buffer.
+    #[inline]
     pub fn bytes_mut(&mut self, block: &Block) -> &mut [u8] {
         self.buf.get_mut(usable(block)).unwrap_or_default()
     }
 
     /// The reserved bytes at the buffer's start; empty if it is shorter.
+    #[inline]
     pub fn reserved_slice(&self) -> &[u8] {
         self.buf.get(..self.shape.reserved as usize).unwrap_or_default()
     }
 
     /// The header, to keep or to look at.
+    #[inline]
     pub fn header(&self) -> Header {
         self.header
     }
 
     /// What setup fixed, to keep or to look at.
+    #[inline]
     pub fn shape(&self) -> Shape {
         self.shape
     }
 
+    #[inline]
     fn parts(&mut self) -> (Shape, *mut Header, *mut u8, usize) {
         (self.shape, &mut self.header, self.buf.as_mut_ptr(), self.buf.len())
     }
