@@ -11,10 +11,10 @@ use crate::rules::{self, Segment, View};
 /// How large a buffer may be.
 #[derive(Debug, Clone, Copy)]
 pub struct Caps {
-    /// No cap is over this.
+    /// No cap is over this but that of a large arena.
     pub most: u32,
-    /// Whether one arena in a few thousand has a megabyte.
-    pub megabyte: bool,
+    /// One arena in so many is large, none for 0.
+    pub large: u64,
 }
 
 /// A setup that both sides take, or now and then one byte too short for either.
@@ -31,8 +31,8 @@ pub fn setup(random: &mut Random, caps: Caps) -> Setup {
         _ => 65_536,
     };
     let mut cap = (start + room).min(caps.most).max(start);
-    if caps.megabyte && random.one_in(4_000) {
-        cap = 1_048_576;
+    if caps.large != 0 && random.one_in(caps.large) {
+        cap = random.within(65_537..=2_097_152);
     }
     if random.one_in(500) {
         cap = start - 1;

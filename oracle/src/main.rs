@@ -26,6 +26,7 @@ use sides::{Ours, Side};
 
 const USAGE: &str = "\
 oracle compare [--calls N] [--seed S]   random calls on both sides, compared after every call
+oracle wide [--calls N] [--seed S]      the same on arenas of 65,537 to 2,097,152 bytes
 oracle exhaustive                       every short sequence of calls on small arenas
 oracle limit                            some calls on buffers of the largest length (two gigabytes)
 oracle damaged [--calls N] [--seed S]   damaged headers and buffers and any numbers, our side alone
@@ -48,7 +49,8 @@ fn run(arguments: &[String]) -> Result<bool, String> {
     let (command, options) = arguments.split_first().ok_or("a command is missing")?;
     let options = Options::read(options)?;
     match command.as_str() {
-        "compare" => Ok(compare(options.calls.unwrap_or(1_000_000), options.seed)),
+        "compare" => Ok(compare(command, options.calls.unwrap_or(1_000_000), options.seed, 4_000)),
+        "wide" => Ok(compare(command, options.calls.unwrap_or(100_000), options.seed, 1)),
         "exhaustive" => Ok(exhaustive()),
         "limit" => Ok(limit()),
         "damaged" => Ok(damaged(options.calls.unwrap_or(1_000_000), options.seed)),
@@ -85,11 +87,11 @@ impl Options {
 
 const OURS: Make = &|setup| Ok(Box::new(Ours::create(setup)?) as Box<dyn Side>);
 
-fn compare(calls: u64, seed: u64) -> bool {
-    let (tally, difference) = drive::compare(calls, seed, Caps { most: 65_536, megabyte: true }, OURS);
+fn compare(command: &str, calls: u64, seed: u64, large: u64) -> bool {
+    let (tally, difference) = drive::compare(calls, seed, Caps { most: 65_536, large }, OURS);
     println!("{tally}");
     let same = tell(&difference);
-    println!("compare: {} calls compared, seed {seed}, {} differences", tally.compared, u8::from(!same));
+    println!("{command}: {} calls compared, seed {seed}, {} differences", tally.compared, u8::from(!same));
     same
 }
 

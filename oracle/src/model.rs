@@ -219,7 +219,7 @@ mod tests {
 
     #[test]
     fn the_model_equals_the_rust() {
-        let (tally, difference) = drive::compare(200_000, 7, Caps { most: 65_536, megabyte: false }, &fresh);
+        let (tally, difference) = drive::compare(200_000, 7, Caps { most: 65_536, large: 0 }, &fresh);
         assert!(difference.is_none(), "{}", difference.unwrap());
         assert!(tally.granted_from_list > 10_000 && tally.splits > 5_000);
     }

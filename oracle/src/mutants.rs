@@ -54,7 +54,7 @@ pub fn seen(mutant: &Mutant, seed: u64) -> Option<(u64, usize)> {
         let ours = Ours::create(setup)?;
         Ok(Box::new(Wrong { ours, edit: mutant.edit, first: None, inserted: false }) as Box<dyn Side>)
     };
-    let caps = Caps { most: 4_096, megabyte: false };
+    let caps = Caps { most: 4_096, large: 0 };
     let (tally, difference) = drive::compare(PATIENCE, seed, caps, &make);
     difference.map(|found| (tally.compared, found.calls.len()))
 }

@@ -13,7 +13,7 @@ use crate::rules::{self, View};
 use crate::sides::{Side, Theirs};
 
 /// No arena of the sample is longer.
-const CAPS: Caps = Caps { most: 4_096, megabyte: false };
+const CAPS: Caps = Caps { most: 4_096, large: 0 };
 
 /// Each arena of the sample is the one, of this many, that asks its list most.
 const TRIED: u32 = 24;

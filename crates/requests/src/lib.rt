@@ -9,10 +9,10 @@ ghost use Rattle.records.specs.Setup.{limit};
 ghost use Rattle.requests.specs.Request.{layoutOf, wellFormed, goodLayout, plain, forNothing, topEnd, asked, need, listBlock, Planned, Needed};
 
 // What a request asks for, in numbers: all that the three differ in at the top, but for what is zeroed there.
-pub struct Layout {
-    pub size: u32,
-    pub align: u32,
-    pub extra: u32,
+struct Layout {
+    size: u32,
+    align: u32,
+    extra: u32,
 }
 
 // A request in numbers.
