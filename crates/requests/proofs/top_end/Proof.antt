@@ -1,6 +1,8 @@
 -- `requests::top_end` meets its contract: the tests of `topEnd`, in their order. Assumes nothing.
 use mathlib.Core.Path.{_≡_, sym, _∙_}
 use mathlib.Core.Bool.{true}
+use Prim.Native.Nat.{ℕ}
+use native.Mathlib.Omega.{arith}
 use borrow.Author.Needs.{needs}
 use borrow.Author.Tests.{not-true, not-false, le-leb, lt-leb}
 use lib.Dec.{leb}
@@ -38,18 +40,25 @@ at-top-requires c κs =
     rw (s .simplify .ensures) (plain-formed _ (formed (s .before)))
 
 -- past the first tests the end decides
-ends : (c : tie.After-at-top) → let a = c .before .before .before .before .before .before .args in let want = c .at-top .result .want in topEnd (a .cap) (a .top) (a .request) ≡ pick (leb want (a .cap)) want 0
-unfolding topEnd
-ends c =
-    let e = c .before in
-    let s = e .before .before in
-    simp (formed (s .before), ← (s .simplify .ensures), sym (e .before .for-nothing .ensures) ∙ e .if2 .left, ← (c .at-top .ensures .is))
+module _ (c : tie.After-at-top) where
+  abbrev want : ℕ
+  want = c .at-top .result .want
+
+  abbrev cap : ℕ
+  cap = c .before .before .before .before .before .before .args .cap
+
+  ends : let a = c .before .before .before .before .before .before .args in topEnd (a .cap) (a .top) (a .request) ≡ pick (leb want cap) want 0
+  unfolding topEnd
+  ends =
+      let e = c .before in
+      let s = e .before .before in
+      simp (formed (s .before), ← (s .simplify .ensures), sym (e .before .for-nothing .ensures) ∙ e .if2 .left, ← (c .at-top .ensures .is))
 
 returns-3 : tie.Need-returns-3
-returns-3 c = rw (ends (c .before), lt-leb _ _ (c .if3 .taken))
+returns-3 c = let a = c .before in rw (ends a, lt-leb (want a) (cap a) (omega arith))
 
 returns-4 : tie.Need-returns-4
-returns-4 c = rw (ends (c .before), le-leb _ _ (c .if3 .left))
+returns-4 c = let a = c .before in rw (ends a, le-leb (want a) (cap a) (omega arith))
 
 pub top-end-spec : {M : Type 1} → statement M
 top-end-spec =
