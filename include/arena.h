@@ -34,9 +34,10 @@ enum ArenaPolicy {
 /* What an answer says. 1 to 9 are refusals. */
 enum ArenaCode {
     ARENA_READ_ONLY = 1,           /* the arena is read-only, and the call would change it */
-    ARENA_UNKNOWN_FREELIST = 2,    /* the policy code is none of 0, 1, 2: in setup, or in the shape of any other call */
+    ARENA_UNKNOWN_FREELIST = 2,    /* setup's policy code is none of 0, 1, 2 */
     ARENA_BAD_SETUP = 3,           /* the buffer is longer than 1,073,741,824 bytes, or ends before the data offset */
-    ARENA_DAMAGED = 4,             /* the head is not sound; or, in a call that needs the list, the arena is not */
+    ARENA_DAMAGED = 4,             /* the head is not sound, or the shape's policy code is none of 0, 1, 2; or, in a call that needs the
+                                      list, the arena is not sound */
     ARENA_BAD_LAYOUT = 5,          /* a size or an extra over 1,073,741,824, an alignment that is no power of two from 1 to 4,096, or a
                                       size that is no multiple of it */
     ARENA_OUT_OF_BOUNDS = 6,       /* the range given back starts below the data offset or ends above allocated. first: the offset given;

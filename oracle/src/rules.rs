@@ -62,8 +62,9 @@ pub fn setup_refusal(setup: &Setup) -> Option<Refusal> {
 }
 
 pub fn head_sound(view: &View) -> bool {
-    let Shape { cap, reserved, data_offset: start, unify, .. } = view.shape;
-    view.bytes.len() == cap as usize
+    let Shape { cap, reserved, data_offset: start, unify, freelist, .. } = view.shape;
+    freelist <= 2
+        && view.bytes.len() == cap as usize
         && cap <= LIMIT
         && u64::from(start) == data_offset(reserved, unify)
         && start <= view.counters.allocated
@@ -81,7 +82,7 @@ pub fn segments(view: &View) -> Option<Vec<Segment>> {
 }
 
 pub fn sound(view: &View) -> bool {
-    view.shape.freelist <= 2 && segments(view).is_some()
+    segments(view).is_some()
 }
 
 fn halves(word: u64) -> [u32; 2] {
@@ -122,14 +123,10 @@ fn apart(found: &[Segment]) -> bool {
     by_place.windows(2).all(|pair| pair[0].end() <= pair[1].offset.into())
 }
 
-/// The refusal among 1 to 8 that the call is owed, in document 01's order, or none. Under an unknown policy code
-/// every call but a caller's write is owed 2.
+/// The refusal among 1 to 8 that the call is owed, in document 01's order, or none.
 pub fn refusal(view: &View, call: &Call) -> Option<Refusal> {
     if let Call::Fill { .. } = call {
         return None;
-    }
-    if view.shape.freelist > 2 {
-        return Some(Refusal::UnknownFreelist);
     }
     if view.shape.read_only {
         return Some(Refusal::ReadOnly);

@@ -1,7 +1,8 @@
 //! The boundary itself, as `libexports.a` has it. A slice crosses as its address and its length. Every number, header
 //! and byte is allowed: the library refuses what it cannot serve and stays inside the buffer.
 
-/// What setup fixes for an arena's life. Every call tests it against the buffer, and its policy code first of all.
+/// What setup fixes for an arena's life. Every call tests it against the buffer; one whose policy code is none of 0, 1, 2
+/// is damaged.
 #[repr(C)]
 #[derive(Debug, Clone, Copy, PartialEq, Eq)]
 pub struct Shape {

@@ -83,6 +83,22 @@ fn damaged() {
     assert_eq!(arena.increase_discarded(1), Ok(()));
 }
 
+/// Damage to the policy is refused where document 01 has a damaged head: after 1 and 5.
+#[test]
+fn no_policy() {
+    let mut buf = [0; 100];
+    let arena = full(&mut buf);
+    let (shape, header) = (arena::Shape { freelist: 3, ..arena.shape() }, arena.header());
+    let mut arena = Arena::from_parts(shape, header, &mut buf);
+    assert!(!arena.sound());
+    refused(&mut arena, Refusal::BadLayout, |a| a.alloc(8, 3));
+    refused(&mut arena, Refusal::Damaged, |a| a.alloc_bytes(0));
+    refused(&mut arena, Refusal::Damaged, |a| a.dealloc(60, 8));
+    refused(&mut arena, Refusal::Damaged, |a| a.increase_discarded(1));
+    let mut arena = Arena::from_parts(arena::Shape { read_only: true, ..shape }, header, &mut buf);
+    refused(&mut arena, Refusal::ReadOnly, |a| a.alloc(8, 3));
+}
+
 #[test]
 fn bad_layout() {
     let mut buf = [0; 100];

@@ -4,7 +4,7 @@
 -- Assumes nothing.
 use Prim.Native.Nat.{ℕ, _<_}
 use mathlib.Core.Path.{_≡_, refl, ap, sym, _∙_}
-use mathlib.Core.Bool.{true, false, _||_}
+use mathlib.Core.Bool.{Bool, true, false, _||_}
 use mathlib.Core.List.{List, [], _∷_}
 use native.Mathlib.Omega.{arith}
 use lib.Dec.{eqb}
@@ -14,23 +14,22 @@ use Rattle.words.specs.Word.{nodeWord, sizeHalf, nextHalf}
 use Rattle.words.proofs.Digits.{word-size, word-next}
 use Rattle.records.specs.Pick.{pick}
 use Rattle.records.specs.Answer.{Outcome, outcome, leaves, Said, said, granted, nothing, givenBack, sum, done, refused}
-use Rattle.records.specs.Setup.{policyOf}
+use Rattle.records.specs.Setup.{dataOffset, policyOf}
+use Rattle.records.specs.Head.{headSound}
+use Rattle.records.proofs.Facts.{head-no}
 use Rattle.records.specs.declared.Answer.{Answer}
 use Rattle.records.specs.declared.Answer.the-variants.{Granted, Nothing, GivenBack, Sum, Done, ReadOnly, Damaged, BadLayout, OutOfBounds, Overlap, CutsFreeList, InsufficientSpace}
-use Rattle.records.specs.declared.Arena.{Arena}
 use Rattle.records.specs.declared.Freelist.{Freelist}
 use Rattle.records.specs.declared.Freelist.the-variants.{None, Ordered}
 use Rattle.records.specs.declared.Header.{Header}
 use Rattle.records.specs.declared.Order.the-variants.{Optimistic, Pessimistic}
-use Rattle.records.specs.declared.Policy.the-variants.{Known}
+use Rattle.records.specs.declared.Policy.the-variants.{Known, Unknown}
 use Rattle.records.specs.declared.Reply.{Reply}
 use Rattle.records.specs.declared.Shape.{Shape}
 use Rattle.records.proofs.Rules.{policy-codes}
-use Rattle.exports.specs.Crossing.{headerOf, stored, codeOf, shapeOut, shapeWith, received, numbersOf, answerOf, Sent, crossed, crossing}
+use Rattle.exports.specs.Crossing.{headerOf, stored, codeOf, shapeOut, shapeIn, answerOf, Sent, crossed, crossing}
 use Rattle.exports.specs.declared.CAnswer.{CAnswer}
 use Rattle.exports.specs.declared.CShape.{CShape}
-use Rattle.exports.specs.declared.Received.{Received}
-use Rattle.exports.specs.declared.Received.the-variants.{Read, Unreadable}
 
 -- load, then store: the six numbers are what they were, since the first is a u32
 pub stored-same : (n : List ℕ) → getD n 0 0 < 4294967296 → stored n (headerOf n) ≡ n
@@ -44,24 +43,17 @@ loaded-same n h six =
     ap headerOf (sets-eq first n 0 (omega arith)) ∙ simp joined
 
 module _ (c : CShape) (n l : List ℕ) (call : Shape → Header → List ℕ → Outcome) where
-  -- where no arena came over, the answer is 2 and nothing changes
-  pub crosses-unreadable : {r : Received} {a : CAnswer}
-      → r ≡ received c n → r ≡ Unreadable → a ≡ numbersOf 2 0 0 0 0 → crossed a n l ≡ crossing c n l call
-  unfolding crossing
-  crosses-unreadable came is says = simp (← came, is, says)
-
   -- the outcome of a call on the arena that came over, sent, is what crosses
-  pub crosses : {r : Received} {x : Arena} {p : Reply} {a : CAnswer} {m k : List ℕ}
-      → r ≡ received c n → r ≡ Read x → outcome p k ≡ call (x .shape) (x .header) l → Sent n p a m → crossed a m k ≡ crossing c n l call
+  pub crosses : {s : Shape} {h : Header} {p : Reply} {a : CAnswer} {m k : List ℕ}
+      → s ≡ shapeIn c → h ≡ headerOf n → outcome p k ≡ call s h l → Sent n p a m → crossed a m k ≡ crossing c n l call
   unfolding crossing
-  crosses came is did sent = simp (← came, is, ← did, sent .answers, sent .stores)
+  crosses shape header did sent = simp (← shape, ← header, ← did, sent .answers, sent .stores)
 
   -- a call that leaves header and bytes as they were, as every refusal does, leaves the six numbers and the bytes on the other side too
-  pub crosses-same : {f : Freelist} {x : Said}
-      → policyOf (c .freelist) ≡ Known f → call (shapeWith c f) (headerOf n) l ≡ leaves x (headerOf n) l → getD n 0 0 < 4294967296
-      → crossing c n l call ≡ crossed (answerOf x) n l
-  unfolding crossing received
-  crosses-same {x = x} known did h = simp (known, did) (ap (λ (m : List ℕ). crossed (answerOf x) m l) (stored-same n h))
+  pub crosses-same : {x : Said}
+      → call (shapeIn c) (headerOf n) l ≡ leaves x (headerOf n) l → getD n 0 0 < 4294967296 → crossing c n l call ≡ crossed (answerOf x) n l
+  unfolding crossing
+  crosses-same {x = x} did h = simp did (ap (λ (m : List ℕ). crossed (answerOf x) m l) (stored-same n h))
 
 -- a policy's code names it
 code-names : (f : Freelist) → policyOf (codeOf f) ≡ Known f
@@ -69,11 +61,21 @@ code-names None = policy-codes .0
 code-names (Ordered Optimistic) = policy-codes .1
 code-names (Ordered Pessimistic) = policy-codes .2
 
--- a shape and a header that were sent are received as they were
-pub sent-received : (s : Shape) (h : Header) (n : List ℕ) → length n ≡ 6 → received (shapeOut s) (stored n h) ≡ Read (record { shape = s; header = h })
-unfolding received
-sent-received s h n six =
-    simp (code-names (s .freelist)) (ap (λ (k : Header). Read (record { shape = s; header = k })) (loaded-same n h six))
+-- a shape that was sent is received as it was
+pub sent-received : (s : Shape) → shapeIn (shapeOut s) ≡ s
+unfolding shapeIn
+sent-received s = simp (code-names (s .freelist))
+
+-- no data offset is 0
+offset-above : (reserved : ℕ) (unify : Bool) → dataOffset reserved unify ≡ 0 → ⊥
+unfolding dataOffset
+offset-above reserved true e = omega arith
+offset-above reserved false e = omega arith
+
+-- over a shape whose code names no policy no head is sound
+pub unknown-damaged : (c : CShape) (h : Header) (n : ℕ) → policyOf (c .freelist) ≡ Unknown → headSound (shapeIn c) h n ≡ false
+unfolding shapeIn
+unknown-damaged c h n e = simp e (head-no _ h n (λ k. offset-above (c .reserved) (c .unify) (sym (k .start))))
 
 -- what five numbers say
 heard : CAnswer → Said

@@ -16,12 +16,9 @@ use Rattle.records.specs.declared.Settings.{Settings}
 use Rattle.records.specs.declared.Shape.{Shape}
 use Rattle.records.specs.declared.Header.{Header}
 use Rattle.records.specs.declared.Reply.{Reply}
-use Rattle.freelist.specs.Sound.{sound}
 use Rattle.exports.specs.declared.CShape.{CShape}
 use Rattle.exports.specs.declared.CAnswer.{CAnswer}
 use Rattle.exports.specs.declared.CBegun.{CBegun}
-use Rattle.exports.specs.declared.Received.{Received}
-use Rattle.exports.specs.declared.Received.the-variants.{Read, Unreadable}
 
 -- the header's six numbers: the sentinel's next and size halves, allocated, minimum, discarded, and one that no call reads or writes
 abbrev pub headerOf : List ℕ → Header
@@ -56,25 +53,25 @@ shapeOut s =
       freelist = codeOf (s .freelist);
     }
 
--- a shape as it comes in, with the policy that its code names
-abbrev pub shapeWith : CShape → Freelist → Shape
-shapeWith c f =
+-- a shape that came over, with this data offset and this policy
+abbrev pub shapeWith : CShape → ℕ → Freelist → Shape
+shapeWith c start f =
     record {
       cap = c .cap;
       reserved = c .reserved;
-      «data_offset» = c .«data_offset»;
+      «data_offset» = start;
       unify = c .unify;
       «read_only» = c .«read_only»;
       freelist = f;
     }
 
--- the arena that came over; there is none where the shape's policy code is none of 0, 1, 2
-abbrev pub receivedBy : Policy → CShape → List ℕ → Received
-receivedBy Unknown c n = Unreadable
-receivedBy (Known f) c n = Read (record { shape = shapeWith c f; header = headerOf n })
+-- a shape as it comes in. A code that names no policy is damage: such a shape gets the data offset 0, over which no head is sound
+abbrev pub shapeBy : Policy → CShape → Shape
+shapeBy (Known f) c = shapeWith c (c .«data_offset») f
+shapeBy Unknown c = shapeWith c 0 None
 
-unfoldable pub received : CShape → List ℕ → Received
-received c n = receivedBy (policyOf (c .freelist)) c n
+unfoldable pub shapeIn : CShape → Shape
+shapeIn c = shapeBy (policyOf (c .freelist)) c
 
 -- an answer's five numbers
 abbrev pub numbersOf : ℕ → ℕ → ℕ → ℕ → ℕ → CAnswer
@@ -110,21 +107,9 @@ crossed a n l = record { answer = a; header = n; bytes = l }
 abbrev pub crossedBy : List ℕ → Outcome → Crossed
 crossedBy n o = crossed (answerOf (o .says)) (stored n (o .header)) (o .bytes)
 
--- a call on the arena that came over; where there is none, refusal 2, and nothing changed
-abbrev pub crossingBy : Received → List ℕ → List ℕ → (Shape → Header → List ℕ → Outcome) → Crossed
-crossingBy Unreadable n l call = crossed (numbersOf 2 0 0 0 0) n l
-crossingBy (Read a) n l call = crossedBy n (call (a .shape) (a .header) l)
-
+-- a call on the arena that came over
 unfoldable pub crossing : CShape → List ℕ → List ℕ → (Shape → Header → List ℕ → Outcome) → Crossed
-crossing c n l call = crossingBy (received c n) n l call
-
--- the soundness check; it says no where no arena came over
-abbrev pub soundBy : Received → List ℕ → Bool
-soundBy Unreadable l = false
-soundBy (Read a) l = sound (a .shape) (a .header) l
-
-unfoldable pub soundReceived : CShape → List ℕ → List ℕ → Bool
-soundReceived c n l = soundBy (received c n) l
+crossing c n l call = crossedBy n (call (shapeIn c) (headerOf n) l)
 
 -- what setup is asked for
 abbrev pub asked : ℕ → Bool → ℕ → ℕ → Bool → Settings

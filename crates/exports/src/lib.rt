@@ -2,9 +2,9 @@
 // pointer and a length, and the header as six u32 in place: the sentinel's next half and size half, allocated, minimum,
 // discarded, and one that is left alone. Those are the 24 bytes of the record that rarena keeps.
 // Every call takes any shape, any header, any bytes and any numbers. Its contract is one equation that gives the answer, the six
-// numbers and every byte afterwards, also where it refuses. A shape whose policy code is none of 0, 1, 2 is refused 2.
+// numbers and every byte afterwards, also where it refuses. A shape whose policy code is none of 0, 1, 2 is damaged: no head
+// is sound over it.
 use records::Answer;
-use records::Arena;
 use records::Begun;
 use records::Freelist;
 use records::Header;
@@ -20,10 +20,11 @@ ghost use lib.ListN.{length};
 ghost use Rattle.records.specs.Answer.{said};
 ghost use Rattle.records.specs.declared.Request.the-variants.{Bytes, Typed, Aligned};
 ghost use Rattle.records.specs.declared.Position.the-variants.{Start, Current, End};
+ghost use Rattle.freelist.specs.Sound.{sound};
 ghost use Rattle.arena.specs.Take.{taking};
 ghost use Rattle.arena.specs.Give.{givingBack};
 ghost use Rattle.arena.specs.Rewind.{discarding, rewinding, settingMinimum, addingDiscarded};
-ghost use Rattle.exports.specs.Crossing.{headerOf, stored, codeOf, shapeOut, shapeWith, received, numbersOf, truth, answerOf, Sent, crossed, crossing, soundReceived, begunOf, noShape, asked, opened, opening};
+ghost use Rattle.exports.specs.Crossing.{headerOf, stored, codeOf, shapeOut, shapeWith, shapeIn, numbersOf, truth, answerOf, Sent, crossed, crossing, begunOf, noShape, asked, opened, opening};
 
 // An arena's shape, as setup gave it. The policy by its code: none 0, optimistic 1, pessimistic 2.
 #[repr(C)]
@@ -51,12 +52,6 @@ pub struct CAnswer {
 pub struct CBegun {
     pub code: u32,
     pub shape: CShape,
-}
-
-// The arena that came over, unless the shape's code names no policy.
-enum Received {
-    Read(Arena),
-    Unreadable,
 }
 
 // The header that the six numbers say.
@@ -110,31 +105,28 @@ fn shape_out(shape: Shape) -> CShape
     }
 }
 
-// A shape that came over, with this policy.
-fn shape_with(shape: CShape, freelist: Freelist) -> Shape
-    ensures { λ r. ⌜ r ≡ shapeWith shape freelist ⌝ }
+// A shape that came over, with this data offset and this policy.
+fn shape_with(shape: CShape, data_offset: u32, freelist: Freelist) -> Shape
+    ensures { λ r. ⌜ r ≡ shapeWith shape «data_offset» freelist ⌝ }
 {
     Shape {
         cap: shape.cap,
         reserved: shape.reserved,
-        data_offset: shape.data_offset,
+        data_offset,
         unify: shape.unify,
         read_only: shape.read_only,
         freelist,
     }
 }
 
-// Reads what came over.
-fn receive(shape: CShape, header: &[u32; 6]) -> Received
-    ensures { λ r. ⌜ r ≡ received shape (now (header .entry)) ⌝ }
+// A shape as it comes in. One whose code names no policy gets the data offset 0, which none has.
+fn shape_in(shape: CShape) -> Shape
+    ensures { λ r. ⌜ r ≡ shapeIn shape ⌝ }
 {
     let Policy::Known(freelist) = records::policy_of(shape.freelist) else {
-        return Received::Unreadable;
+        return shape_with(shape, 0, Freelist::None);
     };
-    Received::Read(Arena {
-        shape: shape_with(shape, freelist),
-        header: load(header),
-    })
+    shape_with(shape, shape.data_offset, freelist)
 }
 
 // An answer of five numbers.
@@ -148,13 +140,6 @@ fn numbers(code: u32, first: u32, second: u32, third: u32, fourth: u32) -> CAnsw
         third,
         fourth,
     }
-}
-
-// The answer where no arena came over.
-fn unreadable() -> CAnswer
-    ensures { λ r. ⌜ r ≡ numbersOf 2 0 0 0 0 ⌝ }
-{
-    numbers(2, 0, 0, 0, 0)
 }
 
 // A truth as a number.
@@ -266,14 +251,11 @@ pub extern "C" fn arena_alloc_bytes(
         ⌜ crossed r (now (header .exit)) (now (buf .exit))
         ≡ crossing shape (now (header .entry)) (now (buf .entry)) (λ s h l. taking s h l (Bytes size)) ⌝ }
 {
-    let Received::Read(here) = receive(shape, header) else {
-        return unreadable();
-    };
-    let reply = arena::alloc_bytes(here.shape, here.header, buf, size);
+    let reply = arena::alloc_bytes(shape_in(shape), load(header), buf, size);
     send(header, reply)
 }
 
-// Room for a value of this size and alignment, its usable part zeroed.
+// Room for a value of this size and alignment, its usable part zeroed where the top meets it.
 #[no_mangle]
 pub extern "C" fn arena_alloc(
     shape: CShape,
@@ -286,14 +268,11 @@ pub extern "C" fn arena_alloc(
         ⌜ crossed r (now (header .exit)) (now (buf .exit))
         ≡ crossing shape (now (header .entry)) (now (buf .entry)) (λ s h l. taking s h l (Typed size align)) ⌝ }
 {
-    let Received::Read(here) = receive(shape, header) else {
-        return unreadable();
-    };
-    let reply = arena::alloc(here.shape, here.header, buf, size, align);
+    let reply = arena::alloc(shape_in(shape), load(header), buf, size, align);
     send(header, reply)
 }
 
-// Room for a value of this size and alignment with `extra` bytes after it, not zeroed.
+// Room for a value of this size and alignment with `extra` bytes after it, not zeroed where the top meets it.
 #[no_mangle]
 pub extern "C" fn arena_alloc_aligned_bytes(
     shape: CShape,
@@ -307,10 +286,7 @@ pub extern "C" fn arena_alloc_aligned_bytes(
         ⌜ crossed r (now (header .exit)) (now (buf .exit))
         ≡ crossing shape (now (header .entry)) (now (buf .entry)) (λ s h l. taking s h l (Aligned size align extra)) ⌝ }
 {
-    let Received::Read(here) = receive(shape, header) else {
-        return unreadable();
-    };
-    let reply = arena::alloc_aligned_bytes(here.shape, here.header, buf, size, align, extra);
+    let reply = arena::alloc_aligned_bytes(shape_in(shape), load(header), buf, size, align, extra);
     send(header, reply)
 }
 
@@ -327,10 +303,7 @@ pub extern "C" fn arena_dealloc(
         ⌜ crossed r (now (header .exit)) (now (buf .exit))
         ≡ crossing shape (now (header .entry)) (now (buf .entry)) (λ s h l. givingBack s h l offset size) ⌝ }
 {
-    let Received::Read(here) = receive(shape, header) else {
-        return unreadable();
-    };
-    let reply = arena::dealloc(here.shape, here.header, buf, offset, size);
+    let reply = arena::dealloc(shape_in(shape), load(header), buf, offset, size);
     send(header, reply)
 }
 
@@ -345,10 +318,7 @@ pub extern "C" fn arena_discard_freelist(
         ⌜ crossed r (now (header .exit)) (now (buf .entry))
         ≡ crossing shape (now (header .entry)) (now (buf .entry)) (λ s h l. discarding s h l) ⌝ }
 {
-    let Received::Read(here) = receive(shape, header) else {
-        return unreadable();
-    };
-    let reply = arena::discard_freelist(here.shape, here.header, buf);
+    let reply = arena::discard_freelist(shape_in(shape), load(header), buf);
     send(header, reply)
 }
 
@@ -364,10 +334,7 @@ pub extern "C" fn arena_rewind_start(
         ⌜ crossed r (now (header .exit)) (now (buf .entry))
         ≡ crossing shape (now (header .entry)) (now (buf .entry)) (λ s h l. rewinding s h l (Start x)) ⌝ }
 {
-    let Received::Read(here) = receive(shape, header) else {
-        return unreadable();
-    };
-    let reply = arena::rewind(here.shape, here.header, buf, Position::Start(x));
+    let reply = arena::rewind(shape_in(shape), load(header), buf, Position::Start(x));
     send(header, reply)
 }
 
@@ -382,10 +349,7 @@ pub extern "C" fn arena_rewind_current(
         ⌜ crossed r (now (header .exit)) (now (buf .entry))
         ≡ crossing shape (now (header .entry)) (now (buf .entry)) (λ s h l. rewinding s h l (Current d)) ⌝ }
 {
-    let Received::Read(here) = receive(shape, header) else {
-        return unreadable();
-    };
-    let reply = arena::rewind(here.shape, here.header, buf, Position::Current(d));
+    let reply = arena::rewind(shape_in(shape), load(header), buf, Position::Current(d));
     send(header, reply)
 }
 
@@ -400,10 +364,7 @@ pub extern "C" fn arena_rewind_end(
         ⌜ crossed r (now (header .exit)) (now (buf .entry))
         ≡ crossing shape (now (header .entry)) (now (buf .entry)) (λ s h l. rewinding s h l (End x)) ⌝ }
 {
-    let Received::Read(here) = receive(shape, header) else {
-        return unreadable();
-    };
-    let reply = arena::rewind(here.shape, here.header, buf, Position::End(x));
+    let reply = arena::rewind(shape_in(shape), load(header), buf, Position::End(x));
     send(header, reply)
 }
 
@@ -419,10 +380,7 @@ pub extern "C" fn arena_set_minimum_segment_size(
         ⌜ crossed r (now (header .exit)) (now (buf .entry))
         ≡ crossing shape (now (header .entry)) (now (buf .entry)) (λ s h l. settingMinimum s h l size) ⌝ }
 {
-    let Received::Read(here) = receive(shape, header) else {
-        return unreadable();
-    };
-    let reply = arena::set_minimum_segment_size(here.shape, here.header, buf, size);
+    let reply = arena::set_minimum_segment_size(shape_in(shape), load(header), buf, size);
     send(header, reply)
 }
 
@@ -437,22 +395,16 @@ pub extern "C" fn arena_increase_discarded(
         ⌜ crossed r (now (header .exit)) (now (buf .entry))
         ≡ crossing shape (now (header .entry)) (now (buf .entry)) (λ s h l. addingDiscarded s h l size) ⌝ }
 {
-    let Received::Read(here) = receive(shape, header) else {
-        return unreadable();
-    };
-    let reply = arena::increase_discarded(here.shape, here.header, buf, size);
+    let reply = arena::increase_discarded(shape_in(shape), load(header), buf, size);
     send(header, reply)
 }
 
-// Whether the arena is sound. It is not where the shape's code names no policy.
+// Whether the arena is sound.
 #[no_mangle]
 pub extern "C" fn arena_sound(shape: CShape, header: &[u32; 6], buf: &[u8]) -> bool
-    ensures { λ r. ⌜ r ≡ soundReceived shape (now (header .entry)) (now (buf .entry)) ⌝ }
+    ensures { λ r. ⌜ r ≡ sound (shapeIn shape) (headerOf (now (header .entry))) (now (buf .entry)) ⌝ }
 {
-    let Received::Read(here) = receive(shape, header) else {
-        return false;
-    };
-    freelist::arena_sound(here.shape, here.header, buf)
+    freelist::arena_sound(shape_in(shape), load(header), buf)
 }
 
 // The room above the top, 0 where the top lies above the capacity. The policy plays no part in it.
@@ -460,5 +412,8 @@ pub extern "C" fn arena_sound(shape: CShape, header: &[u32; 6], buf: &[u8]) -> b
 pub extern "C" fn arena_remaining(shape: CShape, header: &[u32; 6]) -> u32
     ensures { λ r. ⌜ r ≡ shape .cap - headerOf (now (header .entry)) .allocated ⌝ }
 {
-    records::remaining(shape_with(shape, Freelist::None), load(header))
+    records::remaining(
+        shape_with(shape, shape.data_offset, Freelist::None),
+        load(header),
+    )
 }

@@ -3,25 +3,14 @@
 use borrow.Author.Needs.{needs}
 use mir.Facts.{toZ-ofZ}
 use mir.Syntax.{w64}
-use Rattle.exports.proofs.Crosses.{crosses-unreadable, crosses}
+use Rattle.exports.proofs.Crosses.{crosses}
 use Rattle.exports.proofs.arena_rewind_current.Statement.{statement}
 use Rattle.exports.proofs.arena_rewind_current.Tie as tie
 
 returns : tie.Need-returns
-returns c = crosses-unreadable _ _ _ _ (c .before .before .before .receive .ensures) (c .before .enum-told .given .1) (c .unreadable .ensures)
-
-returns-2 : tie.Need-returns-2
-returns-2 c = crosses _ _ _ _ (c .before .before .before .before .before .before .receive .ensures) (c .before .before .before .before .here .given .1) (rw (toZ-ofZ {w = w64} (c .before .before .before .before .before .before .before .before .before .fits .d)) at (c .before .before .rewind .ensures)) (c .send .ensures)
+returns c = crosses _ _ _ _ (c .before .before .before .before .before .shape-in .ensures) (c .before .before .before .load .ensures) (rw (toZ-ofZ {w = w64} (c .before .before .before .before .before .before .before .fits .d)) at (c .before .before .rewind .ensures)) (c .send .ensures)
 
 pub arena-rewind-current-spec : {M : Type 1} → statement M
 arena-rewind-current-spec =
     tie.close
-    (tie.spec
-    (λ c κs. search needs)
-    (λ c. search needs)
-    (λ c. search needs)
-    (λ c κs. search needs)
-    returns
-    (λ c κs. search needs)
-    (λ c κs. search needs)
-    returns-2)
+    (tie.spec (λ c κs. search needs) (λ c κs. search needs) (λ c κs. search needs) (λ c κs. search needs) returns)
