@@ -9,9 +9,9 @@ use lib.ListN.{take, drop, replicate}
 use Rattle.words.specs.Round as R
 use Rattle.words.specs.Align as Al
 use Rattle.words.specs.Word as W
-use Rattle.records.specs.Answer.{Outcome, Said, granted, nothing, refused}
+use Rattle.records.specs.Answer.{Outcome, Said, granted, nothing, givenBack, done, refused, Began, ready}
 use Rattle.records.specs.Setup as St
-use Rattle.records.specs.Setup.{dataOffset, freshHeader}
+use Rattle.records.specs.Setup.{dataOffset, freshHeader, settingUp}
 use Rattle.records.specs.Change.{withTop}
 use Rattle.records.specs.Head as Hd
 use Rattle.records.specs.Rule as Ru
@@ -20,6 +20,7 @@ use Rattle.records.specs.declared.Order.{Order}
 use Rattle.records.specs.declared.Order.the-variants.{Optimistic, Pessimistic}
 use Rattle.records.specs.declared.Freelist.{Freelist}
 use Rattle.records.specs.declared.Freelist.the-variants.{None, Ordered}
+use Rattle.records.specs.declared.Settings.{Settings}
 use Rattle.records.specs.declared.Shape.{Shape}
 use Rattle.records.specs.declared.Request.{Request}
 use Rattle.records.specs.declared.Request.the-variants.{Bytes, Typed, Aligned}
@@ -42,13 +43,14 @@ use Rattle.arena.specs.Give.{givingBack}
 use Rattle.arena.specs.Rewind as Re
 use Rattle.arena.specs.Rewind.{rewinding}
 
--- a line's figure: what a call said, the list, a counter or an offset, bytes, a segment
+-- a line's figure: what a call said, alone or with the top that it left, the list with the count of discarded bytes, bytes or offsets, a segment, an arena set up
 pub data Figure : Type 0 where
   says : Said → Figure
-  list : List Seg → Figure
-  number : ℕ → Figure
+  saysAt : Said → ℕ → Figure
+  list : List Seg → ℕ → Figure
   bytes : List ℕ → Figure
   rule : Segment → Figure
+  setup : Began → Figure
 
 abbrev pub shape : ℕ → ℕ → Freelist → Shape
 shape cap start f =
@@ -60,37 +62,65 @@ take′ s o r = taking s (o .header) (o .bytes) r
 abbrev pub give : Shape → Outcome → ℕ → ℕ → Outcome
 give s o p n = givingBack s (o .header) (o .bytes) p n
 
+-- the policies by their codes: optimistic 1, pessimistic 2
+abbrev pub policy : Order → ℕ
+policy Optimistic = 1
+policy Pessimistic = 2
+
+-- 01: start S: cap 200, reserved 7 (data offset 8), minimum 20: what setup is given, and the fresh arena
+abbrev pub settings : Order → Settings
+settings o = record { reserved = 7; unify = false; policy = policy o; «min_segment_size» = 20; «read_only» = false }
+
 abbrev pub day : Order → Shape
 day o = shape 200 8 (Ordered o)
 
--- 01: start S: cap 200, reserved 7 (data offset 8), minimum 20; bytes 40, 60, 92. The callers write 7 in every byte that they hold
 abbrev pub begin : Outcome
 begin = record { says = nothing; header = freshHeader 8 20; bytes = replicate 200 0 }
 
+-- 01: bytes 40, 60, 92. The callers write 7 in every byte that they hold
+abbrev pub forty : Order → Outcome
+forty o = take′ (day o) begin (Bytes 40)
+
+abbrev pub sixty : Order → Outcome
+sixty o = take′ (day o) (forty o) (Bytes 60)
+
 abbrev pub morning : Order → Outcome
-morning o = take′ (day o) (take′ (day o) (take′ (day o) begin (Bytes 40)) (Bytes 60)) (Bytes 92)
+morning o = take′ (day o) (sixty o) (Bytes 92)
 
 abbrev pub written : Outcome → Outcome
-written o = record { says = o .says; header = o .header; bytes = replicate 200 7 }
+written x = record { says = x .says; header = x .header; bytes = replicate 8 0 ++ replicate 192 7 }
 
 -- 01: give back (8,40), (48,60)
+abbrev pub noon : Order → Outcome
+noon o = give (day o) (written (morning o)) 8 40
+
 abbrev pub s : Order → Outcome
-s o = give (day o) (give (day o) (written (morning o)) 8 40) 48 60
+s o = give (day o) (noon o) 48 60
+
+-- what a call says and the top that it leaves
+abbrev pub leading : Outcome → Figure
+leading x = saysAt (x .says) (x .header .allocated)
 
 -- top 108, cap 200, data offset 8, list empty
-abbrev pub rewind : Position → Figure
-rewind p = number (rewinding (day Optimistic) (withTop (freshHeader 8 20) 108) (replicate 200 0) p .header .allocated)
+abbrev pub rewind : Order → Position → Figure
+rewind o p = leading (rewinding (day o) (withTop (begin .header) 108) (begin .bytes) p)
 
 -- None, cap 20, top 13
 abbrev pub full : Request → Figure
 full r = says (taking (shape 20 8 None) (withTop (freshHeader 8 20) 13) (replicate 20 0) r .says)
 
--- what a request says of S; and after it the list, the count of discarded bytes and some bytes
-abbrev pub asks : Order → Request → Figure
-asks o r = says (take′ (day o) (s o) r .says)
+-- a request in S: what it says; and the list and the count of discarded bytes that it leaves
+abbrev pub taken : Order → Request → Outcome
+taken o r = take′ (day o) (s o) r
 
-abbrev pub after : Outcome → Order → Figure
-after x o = list (free (day o) (x .header) (x .bytes))
+abbrev pub asks : Order → Request → Figure
+asks o r = says (taken o r .says)
+
+abbrev pub keeping : Order → Outcome → Figure
+keeping o x = list (free (day o) (x .header) (x .bytes)) (x .header .discarded)
+
+abbrev pub after : Order → Request → Figure
+after o r = keeping o (taken o r)
 
 abbrev pub seg : ℕ → ℕ → Seg
 seg p n = record { offset = p; size = n }
@@ -100,6 +130,12 @@ block4 p n at m = says (granted (block p n at m))
 
 abbrev pub refusal : ℕ → List ℕ → Figure
 refusal code carried = says (refused code carried)
+
+abbrev pub doneAt : ℕ → Figure
+doneAt top = saysAt done top
+
+abbrev pub backAt : ℕ → Figure
+backAt top = saysAt (givenBack true) top
 
 -- each line: what the definitions compute, and what the paper says
 pub record Line : Type 0 where
@@ -113,46 +149,44 @@ line a b = record { computed = a; stated = b }
 abbrev pub Agrees : Line → Type 0
 Agrees x = x .computed ≡ x .stated
 
--- start S: bytes 40, 60, 92 give (8,40), (48,60), (108,92); after the give-backs discarded 16, top 200
-abbrev pub settingOut : List Line
-settingOut =
-    line (says (take′ (day Optimistic) begin (Bytes 40) .says)) (block4 8 40 8 40)
-    ∷ line (says (take′ (day Optimistic) (take′ (day Optimistic) begin (Bytes 40)) (Bytes 60) .says)) (block4 48 60 48 60)
-    ∷ line (says (morning Optimistic .says)) (block4 108 92 108 92)
-    ∷ line (number (s Pessimistic .header .discarded)) (number 16)
-    ∷ line (number (s Optimistic .header .discarded)) (number 16)
-    ∷ line (number (s Pessimistic .header .allocated)) (number 200)
+-- lines for which the paper names no policy are computed for both orders
+abbrev pub bothOrders : (Order → List Line) → List Line
+bothOrders lines = lines Optimistic ++ lines Pessimistic
+
+-- start S, as setup answers it; bytes 40, 60, 92 give (8,40), (48,60), (108,92); give back (8,40), (48,60): top 200
+abbrev pub settingOut : Order → List Line
+settingOut o =
+    line (setup (settingUp (settings o) 200)) (setup (ready (day o) (begin .header)))
+    ∷ line (says (forty o .says)) (block4 8 40 8 40)
+    ∷ line (says (sixty o .says)) (block4 48 60 48 60)
+    ∷ line (says (morning o .says)) (block4 108 92 108 92)
+    ∷ line (leading (noon o)) (backAt 200)
+    ∷ line (leading (s o)) (backAt 200)
     ∷ []
 
--- pessimistic order 8, 48; optimistic 48, 8; nodes 8 with 32, 48 with 52
+-- nodes 8 with 32, 48 with 52; discarded 16. Pessimistic order 8, 48; optimistic 48, 8
 abbrev pub sortedLists : List Line
 sortedLists =
-    line (after (s Pessimistic) Pessimistic) (list (seg 8 32 ∷ seg 48 52 ∷ []))
-    ∷ line (after (s Optimistic) Optimistic) (list (seg 48 52 ∷ seg 8 32 ∷ []))
+    line (keeping Pessimistic (s Pessimistic)) (list (seg 8 32 ∷ seg 48 52 ∷ []) 16)
+    ∷ line (keeping Optimistic (s Optimistic)) (list (seg 48 52 ∷ seg 8 32 ∷ []) 16)
     ∷ []
 
--- bytes 30, pessimistic: memory (8,32), usable (16,30); optimistic: (48,52), (56,30). No split
+-- bytes 30, pessimistic: memory (8,32), usable (16,30); optimistic: (48,52), (56,30). No split: discarded stays 16
 abbrev pub bytesThirty : List Line
 bytesThirty =
     line (asks Pessimistic (Bytes 30)) (block4 8 32 16 30)
+    ∷ line (after Pessimistic (Bytes 30)) (list (seg 48 52 ∷ []) 16)
     ∷ line (asks Optimistic (Bytes 30)) (block4 48 52 56 30)
-    ∷ line (after (take′ (day Pessimistic) (s Pessimistic) (Bytes 30)) Pessimistic) (list (seg 48 52 ∷ []))
-    ∷ line (after (take′ (day Optimistic) (s Optimistic) (Bytes 30)) Optimistic) (list (seg 8 32 ∷ []))
+    ∷ line (after Optimistic (Bytes 30)) (list (seg 8 32 ∷ []) 16)
     ∷ []
 
--- bytes 4, optimistic: memory (48,4), usable (56,4), list 64 with 36, then 8; discarded 24
+-- bytes 4, optimistic: memory (48,4), usable (56,4), list 64 with 36, then 8; discarded 24. Pessimistic: (8,32), (16,4), no split
 abbrev pub bytesFour : List Line
 bytesFour =
     line (asks Optimistic (Bytes 4)) (block4 48 4 56 4)
-    ∷ line (after (take′ (day Optimistic) (s Optimistic) (Bytes 4)) Optimistic) (list (seg 64 36 ∷ seg 8 32 ∷ []))
-    ∷ line (number (take′ (day Optimistic) (s Optimistic) (Bytes 4) .header .discarded)) (number 24)
-    ∷ []
-
--- pessimistic: (8,32), (16,4), no split
-abbrev pub bytesFourAgain : List Line
-bytesFourAgain =
-    line (asks Pessimistic (Bytes 4)) (block4 8 32 16 4)
-    ∷ line (after (take′ (day Pessimistic) (s Pessimistic) (Bytes 4)) Pessimistic) (list (seg 48 52 ∷ []))
+    ∷ line (after Optimistic (Bytes 4)) (list (seg 64 36 ∷ seg 8 32 ∷ []) 24)
+    ∷ line (asks Pessimistic (Bytes 4)) (block4 8 32 16 4)
+    ∷ line (after Pessimistic (Bytes 4)) (list (seg 48 52 ∷ []) 16)
     ∷ []
 
 -- bytes 53: pessimistic 9 (53, 0), optimistic 9 (53, 52)
@@ -166,13 +200,13 @@ bytesFiftyThree =
 abbrev pub typedEight : List Line
 typedEight =
     line (asks Pessimistic (Typed 8 8)) (block4 8 32 8 8)
-    ∷ line (bytes (take 16 (drop 16 (take′ (day Pessimistic) (s Pessimistic) (Typed 8 8) .bytes)))) (bytes (replicate 15 0 ++ 7 ∷ []))
+    ∷ line (bytes (take 16 (drop 16 (taken Pessimistic (Typed 8 8) .bytes)))) (bytes (replicate 15 0 ++ 7 ∷ []))
     ∷ []
 
 -- give back (108,92) instead: top 108
-abbrev pub topAgain : List Line
-topAgain =
-    line (number (give (day Optimistic) (written (morning Optimistic)) 108 92 .header .allocated)) (number 108)
+abbrev pub topAgain : Order → List Line
+topAgain o =
+    line (leading (give (day o) (written (morning o)) 108 92)) (backAt 108)
     ∷ []
 
 -- rule at offset 16: size 28 accepted (20), 27 refused; minimum 0: 9 accepted, 8 refused. (13,33): node 16, size 22
@@ -193,9 +227,9 @@ dataOffsets =
     ∷ []
 
 -- top 1, cap 200, typed 8 align 8: memory (1,15), usable (8,8)
-abbrev pub typedAtOne : List Line
-typedAtOne =
-    line (says (taking (shape 200 1 (Ordered Optimistic)) (freshHeader 1 20) (replicate 200 0) (Typed 8 8) .says)) (block4 1 15 8 8)
+abbrev pub typedAtOne : Order → List Line
+typedAtOne o =
+    line (says (taking (shape 200 1 (Ordered o)) (freshHeader 1 20) (replicate 200 0) (Typed 8 8) .says)) (block4 1 15 8 8)
     ∷ []
 
 -- None, cap 20, top 13, size 8 align 8: typed 9 (24, 7); aligned, extra 0: 9 (8, 7)
@@ -206,46 +240,45 @@ underNone =
     ∷ []
 
 -- rewind: Start(0) 8, Start(500) 200, Current(-108) 108, Current(-109) 8, Current(-101) 8, Current(92) 200, End(150) 50, End(201) 8
-abbrev pub rewinds : List Line
-rewinds =
-    line (rewind (Start 0)) (number 8)
-    ∷ line (rewind (Start 500)) (number 200)
-    ∷ line (rewind (Current (negsuc 107))) (number 108)
-    ∷ line (rewind (Current (negsuc 108))) (number 8)
-    ∷ line (rewind (Current (negsuc 100))) (number 8)
-    ∷ line (rewind (Current (pos 92))) (number 200)
-    ∷ line (rewind (End 150)) (number 50)
-    ∷ line (rewind (End 201)) (number 8)
+abbrev pub rewinds : Order → List Line
+rewinds o =
+    line (rewind o (Start 0)) (doneAt 8)
+    ∷ line (rewind o (Start 500)) (doneAt 200)
+    ∷ line (rewind o (Current (negsuc 107))) (doneAt 108)
+    ∷ line (rewind o (Current (negsuc 108))) (doneAt 8)
+    ∷ line (rewind o (Current (negsuc 100))) (doneAt 8)
+    ∷ line (rewind o (Current (pos 92))) (doneAt 200)
+    ∷ line (rewind o (End 150)) (doneAt 50)
+    ∷ line (rewind o (End 201)) (doneAt 8)
     ∷ []
 
 -- in S, End(150): refusal 8. Give back (8,40) again: 7
-abbrev pub refusals : List Line
-refusals =
-    line (says (rewinding (day Optimistic) (s Optimistic .header) (s Optimistic .bytes) (End 150) .says)) (refusal 8 [])
-    ∷ line (says (give (day Optimistic) (s Optimistic) 8 40 .says)) (refusal 7 [])
+abbrev pub refusals : Order → List Line
+refusals o =
+    line (says (rewinding (day o) (s o .header) (s o .bytes) (End 150) .says)) (refusal 8 [])
+    ∷ line (says (give (day o) (s o) 8 40 .says)) (refusal 7 [])
     ∷ []
 
 -- the whole ledger, a group of lines for each of the paper's
 abbrev pub ledger : List (List Line)
 ledger =
-    settingOut
+    bothOrders settingOut
     ∷ sortedLists
     ∷ bytesThirty
     ∷ bytesFour
-    ∷ bytesFourAgain
     ∷ bytesFiftyThree
     ∷ typedEight
-    ∷ topAgain
+    ∷ bothOrders topAgain
     ∷ segmentRule
     ∷ dataOffsets
-    ∷ typedAtOne
+    ∷ bothOrders typedAtOne
     ∷ underNone
-    ∷ rewinds
-    ∷ refusals
+    ∷ bothOrders rewinds
+    ∷ bothOrders refusals
     ∷ []
 
 -- every line of the ledger holds
 pub ledger-holds : All (All Agrees) ledger
-unfolding R.roundUp Al.goodAlign W.valueOf W.digits W.splice W.wordAt W.putWord W.zeroed St.dataOffset Hd.headSound Ru.segmentOf Rq.goodLayout Rq.wellFormed Rq.plain Rq.forNothing Rq.want Rq.need Rq.asked Rq.topBlock Rq.zeroedFrom Rq.listBlock P.exactTop P.newTop C.inRange C.mayFollow C.kept C.goodRun C.soundb L.linkBytes L.linkHead L.insertBytes L.insertHead L.removeBytes L.removeHead So.sound So.free T.fromTop T.firstFit T.headFit T.look T.serveFrom T.serve T.fromList T.pastTop T.taking G.putIn G.belowTop G.givingBack Re.rewinding
+unfolding R.roundUp Al.goodAlign W.valueOf W.digits W.splice W.wordAt W.putWord W.zeroed St.dataOffset St.policyOf St.settingUp Hd.headSound Ru.segmentOf Rq.goodLayout Rq.wellFormed Rq.plain Rq.forNothing Rq.want Rq.need Rq.asked Rq.topBlock Rq.zeroedFrom Rq.listBlock P.exactTop P.newTop C.inRange C.mayFollow C.kept C.goodRun C.soundb L.linkBytes L.linkHead L.insertBytes L.insertHead L.removeBytes L.removeHead So.sound So.free T.fromTop T.firstFit T.headFit T.look T.serveFrom T.serve T.fromList T.pastTop T.taking G.putIn G.belowTop G.givingBack Re.rewinding
 ledger-holds =
-    ((refl, (refl, (refl, (refl, (refl, (refl, tt)))))), ((refl, (refl, tt)), ((refl, (refl, (refl, (refl, tt)))), ((refl, (refl, (refl, tt))), ((refl, (refl, tt)), ((refl, (refl, tt)), ((refl, (refl, tt)), ((refl, tt), ((refl, (refl, (refl, (refl, (refl, tt))))), ((refl, (refl, tt)), ((refl, tt), ((refl, (refl, tt)), ((refl, (refl, (refl, (refl, (refl, (refl, (refl, (refl, tt)))))))), ((refl, (refl, tt)), tt))))))))))))))
+    ((refl, (refl, (refl, (refl, (refl, (refl, (refl, (refl, (refl, (refl, (refl, (refl, tt)))))))))))), ((refl, (refl, tt)), ((refl, (refl, (refl, (refl, tt)))), ((refl, (refl, (refl, (refl, tt)))), ((refl, (refl, tt)), ((refl, (refl, tt)), ((refl, (refl, tt)), ((refl, (refl, (refl, (refl, (refl, tt))))), ((refl, (refl, tt)), ((refl, (refl, tt)), ((refl, (refl, tt)), ((refl, (refl, (refl, (refl, (refl, (refl, (refl, (refl, (refl, (refl, (refl, (refl, (refl, (refl, (refl, (refl, tt)))))))))))))))), ((refl, (refl, (refl, (refl, tt)))), tt)))))))))))))

@@ -1,6 +1,6 @@
 -- Programs that the promises shut out, each refuted at a small arena by computing. The contracts shut out one that refuses everything, one that records
--- nothing or no node's word, an invented discard sum and an invented count of discarded bytes. Demand 3 shuts out one fixed block each time, one that
--- manages its list only for the first give-back and one that refuses everything past the top. Assumes nothing.
+-- nothing or no node's word, one that loses what is given back after the first, an invented discard sum and an invented count of discarded bytes. Demand 3
+-- shuts out one fixed block each time, one that puts in front what is given back after the first and one that refuses everything past the top. Assumes nothing.
 use Prim.Native.Nat.{ℕ, _+_, _≤_}
 use mathlib.Core.Path.{_≡_, refl, sym, ap, _∙_}
 use mathlib.Core.Logic.{_↔_, inl}
@@ -28,6 +28,7 @@ use Rattle.records.specs.declared.Request.{Request}
 use Rattle.records.specs.declared.Request.the-variants.{Bytes}
 use Rattle.records.specs.declared.Segment.{Segment}
 use Rattle.records.specs.declared.Segment.the-variants.{At, Refused}
+use Rattle.records.proofs.Facts.{pick-either}
 use Rattle.requests.specs.Request as Rq
 use Rattle.requests.specs.Request.{block, plain, want, need}
 use Rattle.freelist.specs.Segs.{Seg, Pairwise}
@@ -42,8 +43,11 @@ use Rattle.arena.specs.Rewind as Re
 use Rattle.promise.specs.declared.Call.{Call}
 use Rattle.promise.specs.declared.Call.the-variants.{Take, Give, Discard, Rewind, SetMinimum, AddDiscarded}
 use Rattle.promise.specs.Calls.{performed}
-use Rattle.promise.specs.Runs.{State, Holds, heldAfter, Allowed, Reached, fresh, call, PastTop, freeIn}
-use Rattle.promise.proofs.DemandThree.{demand-three}
+use Rattle.promise.specs.Runs.{State, Holds, heldAfter, elsewhere, Allowed, Reached, fresh, call, PastTop, freeIn}
+use Rattle.promise.proofs.Holding.{Kept, keeps, hold-only, hold-counters}
+use Rattle.promise.proofs.Cases.{Left, left-quiet}
+use Rattle.promise.proofs.Starts.{fresh-keeps}
+use Rattle.promise.proofs.DemandThree.{call-left, kept-promise, demand-three}
 
 -- a program answers every call on any arena
 abbrev pub Program : Type 0
@@ -167,19 +171,22 @@ records-no-word-out m =
     let z : _≡_ {A = ℕ} 0 16 = ap (λ (o : Outcome). getD (o .bytes) 12 0) (m small (takenBy performed .header) (takenBy performed .bytes) (Give 8 24)) in
     omega arith
 
--- one that manages its list only for the first give-back: later ones stand in front, whatever their size
+-- one that manages its list only for the first give-back, and does something else with later ones
+abbrev firstAnd : (Shape → Header → List ℕ → ℕ → ℕ → Outcome) → Program
+firstAnd later s h l (Take r) = performed s h l (Take r)
+firstAnd later s h l (Give offset size) = pick (eqb (length (free s h l)) 0) (performed s h l (Give offset size)) (later s h l offset size)
+firstAnd later s h l Discard = performed s h l Discard
+firstAnd later s h l (Rewind p) = performed s h l (Rewind p)
+firstAnd later s h l (SetMinimum n) = performed s h l (SetMinimum n)
+firstAnd later s h l (AddDiscarded n) = performed s h l (AddDiscarded n)
+
+-- they stand in front, whatever their size
 abbrev front : Header → List ℕ → ℕ → Segment → Outcome
 front h l size Refused = leaves (givenBack false) (losing h size) l
 front h l size (At p n) = leaves (givenBack true) (losing (withFirst h p) 8) (W.putWord l p (W.nodeWord n (firstOf h)))
 
 abbrev pub firstOnly : Program
-firstOnly s h l (Take r) = performed s h l (Take r)
-firstOnly s h l (Give offset size) =
-    pick (eqb (length (free s h l)) 0) (performed s h l (Give offset size)) (front h l size (Ru.segmentOf (h .«min_segment_size») offset size))
-firstOnly s h l Discard = performed s h l Discard
-firstOnly s h l (Rewind p) = performed s h l (Rewind p)
-firstOnly s h l (SetMinimum n) = performed s h l (SetMinimum n)
-firstOnly s h l (AddDiscarded n) = performed s h l (AddDiscarded n)
+firstOnly = firstAnd (λ s h l offset size. front h l size (Ru.segmentOf (h .«min_segment_size») offset size))
 
 pub first-only-out : Sounds firstOnly → ⊥
 unfolding R.roundUp W.valueOf W.digits W.splice W.wordAt W.putWord W.zeroed St.dataOffset Hd.headSound Ru.segmentOf Rq.wellFormed Rq.plain Rq.forNothing Rq.want Rq.topBlock Rq.zeroedFrom C.inRange C.mayFollow C.kept C.goodRun C.soundb L.linkBytes L.linkHead L.insertBytes L.insertHead So.sound So.free T.fromTop T.taking G.putIn G.belowTop G.givingBack
@@ -187,6 +194,37 @@ first-only-out m =
     let once = next (Give 8 24) (block 8 24 8 24, List·Memᴰ·tail (List·Memᴰ·tail (List·Memᴰ·head refl)), refl, refl) (taken-brought firstOnly) in
     let twice = next (Give 32 16) (block 32 16 32 16, List·Memᴰ·tail (List·Memᴰ·head refl), refl, refl) once in
     false≢true (sound-iff _ _ _ .1 (m small _ twice))
+
+-- or, below the top, they are answered true and counted as discarded, with no node: its own runs stay sound; the exact answers and headers of demand 2 shut it out
+abbrev pub firstThenLoses : Program
+firstThenLoses =
+    firstAnd (λ s h l offset size. pick (eqb (offset + size) (h .allocated)) (performed s h l (Give offset size)) (leaves (givenBack true) (losing h size) l))
+
+first-then-loses-left : {s : Shape} {st : State} → Kept s st → (c : Call) → Allowed st c → Left s st c (firstThenLoses s (st .header) (st .bytes) c)
+first-then-loses-left k (Take r) a = call-left k (Take r) a
+first-then-loses-left {s} {st} k (Give offset size) a =
+    let c = Give offset size in
+    let lost = hold-counters (hold-only (k .holding) (elsewhere offset)) (losing (st .header) size) refl refl in
+    pick-either (Left s st c) (eqb (length (freeIn s st)) 0) _ _ (λ _. call-left k c a)
+    (λ _. pick-either (Left s st c) (eqb (offset + size) (st .header .allocated)) _ _ (λ _. call-left k c a) (λ _. left-quiet k c (givenBack true) _ (keeps (k .writable) lost)))
+first-then-loses-left k Discard a = call-left k Discard a
+first-then-loses-left k (Rewind p) a = call-left k (Rewind p) a
+first-then-loses-left k (SetMinimum n) a = call-left k (SetMinimum n) a
+first-then-loses-left k (AddDiscarded n) a = call-left k (AddDiscarded n) a
+
+first-then-loses-kept : (s : Shape) {st : State} → Brought firstThenLoses s st → Kept s st
+first-then-loses-kept s (begun settings h l e w) = fresh-keeps s settings h l e w
+first-then-loses-kept s (next c a b) = first-then-loses-left (first-then-loses-kept s b) c a .kept
+
+pub first-then-loses-sounds : Sounds firstThenLoses
+first-then-loses-sounds s st b = kept-promise (first-then-loses-kept s b) .is-sound
+
+pub first-then-loses-out : Meets firstThenLoses → ⊥
+unfolding R.roundUp W.valueOf W.digits W.splice W.wordAt W.putWord W.zeroed St.dataOffset Hd.headSound Ru.segmentOf Rq.wellFormed Rq.plain Rq.forNothing Rq.want Rq.topBlock Rq.zeroedFrom C.inRange C.mayFollow C.kept C.goodRun C.soundb L.linkBytes L.linkHead L.insertBytes L.insertHead So.sound So.free T.fromTop T.taking G.putIn G.belowTop G.givingBack
+first-then-loses-out m =
+    let once = leftBy performed small (takenBy performed) (Give 8 24) in
+    let z : _≡_ {A = ℕ} 24 16 = ap (λ (o : Outcome). o .header .discarded) (m small (once .header) (once .bytes) (Give 32 16)) in
+    omega arith
 
 -- one that refuses everything past the top
 abbrev pub refusesPast : Program
