@@ -11,9 +11,16 @@ use Rattle.records.specs.declared.Block.{Block}
 unfoldable pub partOf : List ℕ → ℕ → ℕ → List ℕ
 partOf l at n = pick (leb (at + n) (length l)) (take n (drop at l)) []
 
+-- where the part lies, if the buffer starts here: at bytes on, and an empty part of a range that leaves the buffer at the start
+unfoldable pub placeOf : List ℕ → ℕ × ℕ → ℕ → ℕ → ℕ × ℕ
+placeOf l start at n = pick (leb (at + n) (length l)) (start .0, at + start .1) start
+
 -- 01: the part of the buffer that starts at its usable offset
 abbrev pub usablePart : List ℕ → Block → List ℕ
 usablePart l b = partOf l (b .«usable_offset») (b .«usable_size»)
+
+abbrev pub usablePlace : List ℕ → ℕ × ℕ → Block → ℕ × ℕ
+usablePlace l start b = placeOf l start (b .«usable_offset») (b .«usable_size»)
 
 -- 01: the reserved bytes are the buffer's first `reserved`, empty if it is shorter
 abbrev pub reservedPart : List ℕ → Shape → List ℕ

@@ -1,6 +1,6 @@
 -- The segment rule. Document 01, 'Giving back, discarding, rewinding'.
 use Prim.Native.Nat.{ℕ, _+_, _-_}
-use mathlib.Core.Bool.{Bool, _||_}
+use mathlib.Core.Bool.{_||_}
 use lib.Dec.{leb, ltb, eqb}
 use Rattle.words.specs.Round.{roundUp}
 use Rattle.records.specs.Pick.{pick}

@@ -1,7 +1,7 @@
 -- Setup. Document 01, 'Numbers that bound it' and refusals 2 and 3.
 use Prim.Native.Nat.{ℕ, _+_, _≤_, _<_}
 use mathlib.Core.Path.{_≡_}
-use mathlib.Core.Bool.{Bool, true, false, _||_}
+use mathlib.Core.Bool.{Bool, false, _||_}
 use lib.Dec.{ltb, eqb}
 use Rattle.words.specs.Round.{roundUp}
 use Rattle.words.specs.Word.{nodeWord, endMark}

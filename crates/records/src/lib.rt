@@ -1,7 +1,7 @@
 // The arena's records and the rules on numbers alone: setup, the head check, the segment rule, the counters' readers,
 // and the parts of the buffer that are handed out. The list in the bytes is the crate above.
 ghost use mathlib.Core.Path.{_≡_};
-ghost use Prim.Native.Nat.{ℕ, _-_};
+ghost use Prim.Native.Nat.{_-_};
 ghost use lib.ListN.{length};
 ghost use Rattle.words.specs.Word.{nextHalf};
 ghost use Rattle.records.specs.Setup.{Offset, policyOf, defaultSettings, settingUp};
@@ -9,7 +9,7 @@ ghost use Rattle.records.specs.Answer.{began};
 ghost use Rattle.records.specs.Head.{headSound};
 ghost use Rattle.records.specs.Rule.{segmentOf};
 ghost use Rattle.records.specs.Change.{withTop, withFirst, withLeast, losing};
-ghost use Rattle.records.specs.Part.{partOf, usablePart, reservedPart};
+ghost use Rattle.records.specs.Part.{partOf, usablePart, usablePlace, reservedPart};
 
 // The largest buffer, size and extra.
 pub const LIMIT: u32 = 1073741824;
@@ -346,6 +346,7 @@ pub fn bytes(buf: &[u8], block: Block) -> &[u8]
 // A block's usable bytes, to write: the buffer is spent for as long as the part is held.
 pub fn bytes_mut(buf: &mut [u8], block: Block) -> &mut [u8]
     ensures { λ r. ⌜ now r ≡ usablePart (now (buf .entry)) block ⌝ }
+    ensures { λ r. ⌜ r .ptr ≡ usablePlace (now (buf .entry)) (buf .entry .ptr) block ⌝ }
 {
     let at = block.usable_offset as usize;
     let n = block.usable_size as usize;
