@@ -1,6 +1,6 @@
 -- Discarding, rewinding and the setters. Document 01, 'Giving back, discarding, rewinding' and 'What each call says no with'.
 use Prim.Native.Nat.{ℕ}
-use mathlib.Core.Bool.{Bool, true, false, not}
+use mathlib.Core.Bool.{not}
 use mathlib.Core.List.{List, []}
 use lib.ListN.{length}
 use Rattle.words.specs.Word.{endMark}

@@ -1,7 +1,6 @@
 -- The test of a whole list for segments that share a byte: it says yes exactly where each two are apart, and its turns as laws over a walk.
 -- Assumes nothing.
 use mathlib.Core.Path.{_≡_, refl}
-use mathlib.Core.Logic.{inl, inr}
 use mathlib.Core.Bool.{true, false, not}
 use mathlib.Core.List.{List, [], _∷_}
 use Prim.Native.Nat.{ℕ, _-_, _≤_, _<_}
@@ -12,23 +11,19 @@ use Rattle.freelist.specs.Segs.{Seg, All, Pairwise, Apart, InRange, Ends
 use Rattle.freelist.specs.Check.{passed, meets}
 use Rattle.freelist.specs.Split.{apartb}
 use Rattle.freelist.proofs.Listing.{all-map}
-use Rattle.freelist.proofs.Meets.{apart-all, meets-none}
+use Rattle.freelist.proofs.Meets.{apart-sym, apart-all, meets-none}
 use Rattle.freelist.proofs.Runs.{passed-pop}
-
-apart-turn : (s t : Seg) → Apart s t → Apart t s
-apart-turn s t (inl h) = inr h
-apart-turn s t (inr h) = inl h
 
 pub tested-apart : (ss : List Seg) → apartb ss ≡ true → Pairwise Apart ss
 tested-apart [] e = tt
 tested-apart (s ∷ ss) e =
     let b = both (not (meets ss (s .offset) (endOf s))) (apartb ss) e in
-    (all-map (λ t. Apart t s) (Apart s) (λ t. apart-turn t s) ss (apart-all ss s (not-true _ (b .0))), tested-apart ss (b .1))
+    (all-map (λ t. Apart t s) (Apart s) (λ t. apart-sym t s) ss (apart-all ss s (not-true _ (b .0))), tested-apart ss (b .1))
 
 pub apart-tested : (ss : List Seg) → Pairwise Apart ss → apartb ss ≡ true
 apart-tested [] h = refl
 apart-tested (s ∷ ss) h =
-    rw (meets-none ss s (all-map (Apart s) (λ t. Apart t s) (λ t. apart-turn s t) ss (h .0)), apart-tested ss (h .1)) refl
+    rw (meets-none ss s (all-map (Apart s) (λ t. Apart t s) (λ t. apart-sym s t) ss (h .0)), apart-tested ss (h .1)) refl
 
 -- nodes in range end inside a buffer that the top lies in
 pub ranged-ends : (top n : ℕ) (ss : List Seg) → top ≤ n → All (InRange 0 top) ss → All (EndsBy n) ss

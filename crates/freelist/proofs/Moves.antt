@@ -3,11 +3,11 @@
 use mathlib.Core.Path.{_≡_, refl, sym, ap, _∙_, subst}
 use mathlib.Core.Bool.{true}
 use mathlib.Core.List.{List, []}
-use Prim.Native.Nat.{ℕ, _+_, _≤_, _<_}
+use Prim.Native.Nat.{ℕ, _≤_, _<_}
 use native.Mathlib.Omega.{arith}
 use lib.ListN.{length}
-use Rattle.words.specs.Word.{wordAt, putWord, zeroed, nodeWord, sizeHalf, endMark}
-use Rattle.words.proofs.Digits.{word-size, word-next, put-length, zeroed-length}
+use Rattle.words.specs.Word.{wordAt, zeroed, nodeWord, sizeHalf, endMark}
+use Rattle.words.proofs.Digits.{word-size, word-next, zeroed-length}
 use Rattle.records.specs.Head.{Head}
 use Rattle.records.specs.declared.Order.{Order}
 use Rattle.records.specs.declared.Freelist.{Freelist}
@@ -20,7 +20,7 @@ use Rattle.freelist.specs.Link.{insertBytes, insertHead, removeBytes, re
 use Rattle.freelist.specs.Sound.{firstOf, sound, free, InOrder}
 use Rattle.freelist.proofs.Listing.{all-map}
 use Rattle.freelist.proofs.Places.{mem-all}
-use Rattle.freelist.proofs.Words.{Same, Agree, Outside, agree-words, put-words, zeroed-words}
+use Rattle.freelist.proofs.Words.{Same, Agree, Outside, agree-words, zeroed-words}
 use Rattle.freelist.proofs.Links.{run-small, insert-length, remove-length}
 use Rattle.freelist.proofs.Sounds.{listed-kept, listed-insert, listed-remove}
 use Rattle.freelist.proofs.Arenas.{Frees, make-frees, frees-run, frees-ranged, frees-sound, head-numbers, sound-head, sound-marked, sound-frees, sound-listed, sound-ends, sound-below}
@@ -83,12 +83,9 @@ module _ (s : Shape) (h : Header) (l : List ℕ) (yes : sound s h l ≡ true) wh
       let n = head-numbers s h l (sound-head s h l yes) in
       sound-kept h m refl (n .2) (n .3) (sound-below s h l yes)
 
-  -- bytes that agree on every node's eight; a word put, and a range zeroed, outside them
+  -- bytes that agree on every node's eight; a range zeroed outside them
   pub sound-agree : (m : List ℕ) → length m ≡ length l → All (Agree l m) (free s h l) → Holds s h m (free s h l)
   sound-agree m e f = sound-words m e (agree-words l m e (free s h l) (sound-ends s h l yes) f)
-
-  pub sound-put : (p x : ℕ) → p + 8 ≤ length l → All (Outside p (p + 8)) (free s h l) → Holds s h (putWord l p x) (free s h l)
-  sound-put p x k f = sound-words (putWord l p x) (put-length l p x k) (put-words l p x k (free s h l) f)
 
   pub sound-zeroed : (a b : ℕ) → a ≤ b → b ≤ length l → All (Outside a b) (free s h l) → Holds s h (zeroed l a b) (free s h l)
   sound-zeroed a b i k f = sound-words (zeroed l a b) (zeroed-length l a b i k) (zeroed-words l a b i k (free s h l) f)

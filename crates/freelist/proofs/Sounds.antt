@@ -1,17 +1,16 @@
--- What keeps a list sound, once over the order: a node put in or taken out, writes outside the nodes' eight bytes, another top. What the order promises of the head and of the first that fits.
+-- What keeps a list sound, once over the order: a node put in or taken out, other bytes with the same nodes, another top. What the order promises of the head and of the first that fits.
 -- Assumes nothing.
 use mathlib.Core.Path.{_≡_, refl, sym}
 use mathlib.Core.Bool.{Bool, true, false}
 use mathlib.Core.List.{List, _∷_, List·Memᴰ}
-use Prim.Native.Nat.{ℕ, suc, _+_, _≤_, _<_}
+use Prim.Native.Nat.{ℕ, suc, _≤_, _<_}
 use native.Mathlib.Omega.{arith}
 use borrow.Author.Tests.{leb-true, leb-false, le-leb}
 use lib.Dec.{leb}
 use lib.ListN.{length, take, drop, getD, take-append-drop}
 use lib.Seq.{split-at}
-use Rattle.words.specs.Word.{wordAt, putWord, zeroed, endMark}
+use Rattle.words.specs.Word.{wordAt, endMark}
 use Rattle.words.proofs.Ranges.{parted-parts}
-use Rattle.words.proofs.Digits.{put-length, zeroed-length}
 use Rattle.freelist.specs.Segs.{Seg, All, Pairwise, Apart, InRange, EndsBy, Leads, leads, Good, Listed, endOf}
 use Rattle.freelist.specs.Place.{place, insertAt, removeAt}
 use Rattle.freelist.specs.Link.{insertBytes, insertHead, removeBytes, removeHead}
@@ -22,7 +21,7 @@ use Rattle.freelist.proofs.Places.{all-insert, all-remove, pairs-insert
 use Rattle.freelist.proofs.Meets.{apart-sym}
 use Rattle.freelist.proofs.Checks.{leads-trans, listed-ends}
 use Rattle.freelist.proofs.Runs.{run-agree}
-use Rattle.freelist.proofs.Words.{Same, Agree, Outside, agree-words, put-words, zeroed-words}
+use Rattle.freelist.proofs.Words.{Same}
 use Rattle.freelist.proofs.Links.{insert-run, remove-run, insert-length, remove-length}
 
 leads-total : (o : Order) (s t : Seg) → leads o s t ≡ false → leads o t s ≡ true
@@ -67,23 +66,6 @@ module _ (start top : ℕ) (o : Order) where
                 sorted = s .good .sorted;
               };
         }
-
-    pub listed-top : (top′ : ℕ) → start ≤ top′ → top′ ≤ length l → All (EndsBy top′) segs → Listed l head start top′ o segs
-    listed-top top′ = listed-kept l top′ refl (mem-all (Same l l) segs (λ t _. refl))
-
-    listed-words : (m : List ℕ) → length m ≡ length l → All (Same l m) segs → Listed m head start top o segs
-    listed-words m e f =
-        listed-kept m top e f (s .ordered) (s .inside) (all-map (InRange start top) (EndsBy top) (λ t r. r .below) segs (s .good .ranged))
-
-    -- bytes that agree on every node's eight; a word put, and a range zeroed, outside them
-    pub listed-agree : (m : List ℕ) → length m ≡ length l → All (Agree l m) segs → Listed m head start top o segs
-    listed-agree m e f = listed-words m e (agree-words l m e segs (listed-ends l head start top o segs s) f)
-
-    pub listed-put : (p x : ℕ) → p + 8 ≤ length l → All (Outside p (p + 8)) segs → Listed (putWord l p x) head start top o segs
-    listed-put p x h f = listed-words (putWord l p x) (put-length l p x h) (put-words l p x h segs f)
-
-    pub listed-zeroed : (a b : ℕ) → a ≤ b → b ≤ length l → All (Outside a b) segs → Listed (zeroed l a b) head start top o segs
-    listed-zeroed a b h k f = listed-words (zeroed l a b) (zeroed-length l a b h k) (zeroed-words l a b h k segs f)
 
     -- q put in where the order has it
     pub listed-insert : (q : Seg) → InRange start top q → All (λ t. Apart t q) segs

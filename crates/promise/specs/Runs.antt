@@ -7,9 +7,8 @@ use mathlib.Core.Logic.{_⊎_, _↔_}
 use lib.Dec.{leb, eqb}
 use lib.ListN.{length, getD}
 use Rattle.records.specs.Pick.{pick}
-use Rattle.records.specs.Answer.{Outcome, Said, granted, nothing, givenBack, sum, done, refused, ready}
+use Rattle.records.specs.Answer.{Said, granted, nothing, givenBack, sum, done, refused, ready}
 use Rattle.records.specs.Setup.{settingUp}
-use Rattle.records.specs.declared.Order.{Order}
 use Rattle.records.specs.declared.Order.the-variants.{Optimistic, Pessimistic}
 use Rattle.records.specs.declared.Freelist.{Freelist}
 use Rattle.records.specs.declared.Freelist.the-variants.{None, Ordered}

@@ -1,11 +1,12 @@
--- What a request wants at the top, needs of a segment and records: the orders between these numbers, for every well-formed request.
+-- What a request wants at the top, needs of a segment and records: the orders between these numbers, for every well-formed request; the same numbers by its layout;
+-- and what `topEnd` says.
 -- Assumes nothing.
 use Prim.Native.Nat.{ℕ, _+_, _-_, _≤_, _<_}
 use mathlib.Core.Path.{_≡_, refl, sym, _∙_}
 use mathlib.Core.Bool.{Bool, true, false, not, _&&_}
 use native.Mathlib.Omega.{arith}
 use native.Mathlib.Nat.{add-sub-cancel-left}
-use borrow.Author.Tests.{eqb-false, ne-eqb, not-true, leb-true}
+use borrow.Author.Tests.{eqb-false, not-true, leb-true}
 use lib.Dec.{eqb, leb}
 use Rattle.words.specs.Round.{roundUp}
 use Rattle.words.proofs.Rounding.{round-ge, round-lt}
@@ -172,13 +173,6 @@ plain-any P b t a (Aligned size align extra) = elim (eqb size 0) as (λ (x : Boo
   | true ↦ λ _. b extra
   | false ↦ λ q. a size align extra (eqb-false size 0 q)
 ] refl
-
--- nothing more is dropped the second time
-pub plain-plain : (r : Request) → plain (plain r) ≡ plain r
-unfolding plain
-plain-plain =
-    plain-any (λ (r : Request). plain r ≡ r) (λ n. refl) (λ size align. refl)
-    (λ size align extra some. simp (ne-eqb size 0 some))
 
 -- a plain request for something needs at least a byte
 pub need-some : (r : Request) → wellFormed r ≡ true → forNothing (plain r) ≡ false → 1 ≤ need (plain r)

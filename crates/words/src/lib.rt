@@ -1,7 +1,7 @@
 // Numbers and bytes: rounding to an alignment, node words of eight bytes, clearing. Nothing here knows of an arena.
 // Every `requires` is a bound that the callers, all of them in the crates above, show from their own tests.
 ghost use mathlib.Core.Path.{_≡_};
-ghost use Prim.Native.Nat.{ℕ, _+_, _-_, _*_, _<_, _≤_};
+ghost use Prim.Native.Nat.{_+_, _*_, _<_, _≤_};
 ghost use mathlib.Core.Bool.{true};
 ghost use lib.ListN.{length, replicate};
 ghost use Rattle.words.specs.Align.{goodAlign};

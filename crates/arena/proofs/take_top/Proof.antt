@@ -1,6 +1,6 @@
 -- `arena::take_top` meets its contract. The room's three numbers make the block of `fromTop`.
 -- Assumes nothing.
-use mathlib.Core.Path.{_≡_, sym, _∙_}
+use mathlib.Core.Path.{sym, _∙_}
 use native.Mathlib.Omega.{arith}
 use borrow.Author.Needs.{needs}
 use denote.Ref.{now}
