@@ -1,4 +1,4 @@
--- The answers of `taking`, `fromTop`, `pastTop` and `look`, in the order of their tests.
+-- The answers of `taking`, `endAtTop`, `fromTop`, `pastTop` and `look`, in the order of their tests.
 -- Assumes nothing.
 use Prim.Native.Nat.{ℕ, _-_, _≤_, _<_}
 use mathlib.Core.Path.{_≡_, refl, _∙_}

@@ -272,7 +272,8 @@ pub fn alloc(shape: Shape, header: Header, buf: &mut [u8], size: u32, align: u32
     take_else(shape, header, buf, request)
 }
 
-// A value of this size and alignment with `extra` bytes behind it, not zeroed where the top meets it.
+// A value of this size and alignment with `extra` bytes behind it, not zeroed where the top meets it; for size 0 `extra`
+// bytes, zeroed.
 pub fn alloc_aligned_bytes(
     shape: Shape,
     header: Header,

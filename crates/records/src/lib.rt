@@ -95,7 +95,7 @@ pub enum Position {
     End(u32),
 }
 
-// What a call answers. `Said` in specs/ gives document 01's number and values for each case.
+// What a call answers. `said` in specs/ gives document 01's number and values for each case.
 pub enum Answer {
     Granted(Block),
     Nothing,

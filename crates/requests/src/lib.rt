@@ -1,5 +1,5 @@
 // The three requests on numbers alone: which are well-formed, where they end at the top, what they need of a segment,
-// and the block that they record. What differs between bytes, typed and aligned requests is here and nowhere else.
+// and the block that they have of one. What differs between bytes, typed and aligned requests is here and nowhere else.
 use records::Block;
 use records::Request;
 ghost use mathlib.Core.Path.{_≡_};

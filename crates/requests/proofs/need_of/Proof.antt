@@ -1,4 +1,4 @@
--- `requests::need_of` meets its contract: the number of `needed`, by the layout. Assumes nothing.
+-- `requests::need_of` meets its contract: the number of `need`, by the layout. Assumes nothing.
 use native.Mathlib.Omega.{arith}
 use Rattle.requests.proofs.Layouts.{laid-formed}
 use Rattle.requests.proofs.Plans.{need-laid, needed}
