@@ -58,7 +58,7 @@ pub struct Node {
 }
 
 // The node that eight bytes say. Each half is read by itself: in a walk that is one load of four bytes.
-pub fn read_node(part: &[u8]) -> Node
+fn read_node(part: &[u8]) -> Node
     requires { ⌜ length (now part) ≡ 8 ⌝ }
     ensures { λ r. ⌜ NodeOf (valueOf (now (part .entry))) (r .size) (r .next) ⌝ }
 {
@@ -83,7 +83,7 @@ pub fn node_word(size: u32, next: u32) -> u64
 }
 
 // Writes the word w into eight bytes, the lowest first.
-pub fn write_word(part: &mut [u8], w: u64)
+fn write_word(part: &mut [u8], w: u64)
     requires { ⌜ length (now part) ≡ 8 ⌝ }
     ensures { λ _. ⌜ now (part .exit) ≡ digits 8 w ⌝ }
 {
@@ -106,7 +106,7 @@ pub fn put_word(buf: &mut [u8], p: usize, w: u64)
 }
 
 // Sets every byte to zero: a byte a turn, which the compiler makes one fill.
-pub fn clear(part: &mut [u8])
+fn clear(part: &mut [u8])
     ensures { λ _. ⌜ now (part .exit) ≡ replicate (length (now (part .entry))) 0 ⌝ }
 {
     let mut i: usize = 0;
