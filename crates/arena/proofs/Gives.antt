@@ -12,7 +12,7 @@ use Rattle.records.specs.Answer.{leaves, refuses, givenBack}
 use Rattle.records.specs.Rule.{segmentOf}
 use Rattle.records.specs.Change.{withTop, withFirst, losing}
 use Rattle.records.specs.declared.Order.{Order}
-use Rattle.records.specs.declared.Freelist.the-variants.{None, Ordered}
+use Rattle.records.specs.declared.Policy.the-variants.{None, Ordered}
 use Rattle.records.specs.declared.Shape.{Shape}
 use Rattle.records.specs.declared.Header.{Header}
 use Rattle.records.specs.declared.Segment.the-variants.{At, Refused}
@@ -54,21 +54,21 @@ module _ (s : Shape) (h : Header) (l : List ℕ) (offset size : ℕ) where
             unfolding givingBack
             gives-top e next f = simp (writable, good, le-ltb _ _ above, le-ltb _ _ below, apart, eq-eqb _ _ e, f)
 
-            pub gives-below : (offset + size ≡ h .allocated → ⊥) → belowTop (s .freelist) s h l offset size ≡ givingBack s h l offset size
+            pub gives-below : (offset + size ≡ h .allocated → ⊥) → belowTop (s .policy) s h l offset size ≡ givingBack s h l offset size
             unfolding givingBack
             gives-below e = simp (writable, good, le-ltb _ _ above, le-ltb _ _ below, apart, ne-eqb _ _ e)
 
   -- below the top, by the policy and the segment rule
-  pub below-none : s .freelist ≡ None → (next : Header) → next ≡ losing h size → leaves (givenBack true) next l ≡ belowTop (s .freelist) s h l offset size
+  pub below-none : s .policy ≡ None → (next : Header) → next ≡ losing h size → leaves (givenBack true) next l ≡ belowTop (s .policy) s h l offset size
   unfolding belowTop
   below-none policy next e = simp (policy, e)
 
-  pub below-refused : (o : Order) → s .freelist ≡ Ordered o → segmentOf (h .«min_segment_size») offset size ≡ Refused
-      → (next : Header) → next ≡ losing h size → leaves (givenBack false) next l ≡ belowTop (s .freelist) s h l offset size
+  pub below-refused : (o : Order) → s .policy ≡ Ordered o → segmentOf (h .«minimum_segment_size») offset size ≡ Refused
+      → (next : Header) → next ≡ losing h size → leaves (givenBack false) next l ≡ belowTop (s .policy) s h l offset size
   unfolding belowTop putIn
   below-refused o policy rule next e = simp (policy, rule, e)
 
-  module _ (p n : ℕ) (rule : segmentOf (h .«min_segment_size») offset size ≡ At p n) where
+  module _ (p n : ℕ) (rule : segmentOf (h .«minimum_segment_size») offset size ≡ At p n) where
     -- the node lies in the buffer
     pub node-inside : sound s h l ≡ true → offset + size ≤ h .allocated → (p + 8 + n ≤ length l) × (length l < endMark)
     node-inside good below =
@@ -76,9 +76,9 @@ module _ (s : Shape) (h : Header) (l : List ℕ) (offset size : ℕ) where
         let k = sound-head s h l good in
         (omega arith, omega arith)
 
-    pub below-inserted : (o : Order) → s .freelist ≡ Ordered o → (first count : ℕ) → first ≡ firstOf h → Held l first count (free s h l)
+    pub below-inserted : (o : Order) → s .policy ≡ Ordered o → (first count : ℕ) → first ≡ firstOf h → Held l first count (free s h l)
         → (l′ : List ℕ) (to : ℕ) → Inserted l (passed (wordAt l) count first) first o (record { offset = p; size = n }) l′ to
-        → (linked next : Header) → linked ≡ withFirst h to → next ≡ losing linked 8 → leaves (givenBack true) next l′ ≡ belowTop (s .freelist) s h l offset size
+        → (linked next : Header) → linked ≡ withFirst h to → next ≡ losing linked 8 → leaves (givenBack true) next l′ ≡ belowTop (s .policy) s h l offset size
     unfolding belowTop putIn
     below-inserted o policy first count starts k l′ to i linked next e f =
         rw (f, e ∙ ap (withFirst h) (i .starts), i .bytes) (simp (policy, rule, ← k .are, ← starts))

@@ -9,10 +9,10 @@ use Rattle.words.specs.Word.{wordAt, endMark}
 use Rattle.records.specs.declared.Shape.{Shape}
 use Rattle.records.specs.declared.Header.{Header}
 use Rattle.freelist.specs.Segs.{Seg, Run, All, EndsBy}
-use Rattle.freelist.specs.Check.{after, passed}
+use Rattle.freelist.specs.Check.{followed, passed}
 use Rattle.freelist.specs.Sound.{firstOf, sound, free, surveyed}
 use Rattle.freelist.specs.declared.Finding.the-variants.{Sound}
-use Rattle.freelist.proofs.Runs.{run-after, run-passed}
+use Rattle.freelist.proofs.Runs.{run-followed, run-passed}
 use Rattle.freelist.proofs.Arenas.{sound-run, sound-ends}
 use Rattle.freelist.proofs.Surveys.{found-sound}
 
@@ -21,12 +21,12 @@ pub record Held (l : List ℕ) (first count : ℕ) (segs : List Seg) : Type 0 wh
   pub run : Run (wordAt l) first segs endMark
   pub are : passed (wordAt l) count first ≡ segs
   pub ends : All (EndsBy (length l)) (passed (wordAt l) count first)
-  pub stops : after (wordAt l) count first ≡ endMark
+  pub stops : followed (wordAt l) count first ≡ endMark
 
 pub run-held : (l : List ℕ) (first count : ℕ) (segs : List Seg) → Run (wordAt l) first segs endMark → All (EndsBy (length l)) segs → count ≡ length segs → Held l first count segs
 run-held l first count segs run ends counted =
     let are = run-passed (wordAt l) first endMark segs run count counted in
-    record { run = run; are = are; ends = rw are ends; stops = run-after (wordAt l) first endMark segs run count counted }
+    record { run = run; are = are; ends = rw are ends; stops = run-followed (wordAt l) first endMark segs run count counted }
 
 -- the free list of a sound arena
 pub free-held : (s : Shape) (h : Header) (l : List ℕ) (first count : ℕ) → sound s h l ≡ true → first ≡ firstOf h → count ≡ length (free s h l) → Held l first count (free s h l)

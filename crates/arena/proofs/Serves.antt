@@ -12,7 +12,7 @@ use Rattle.records.specs.Answer.{leaves, granted}
 use Rattle.records.specs.Rule.{segmentOf}
 use Rattle.records.specs.Change.{withFirst, losing}
 use Rattle.records.specs.declared.Order.{Order}
-use Rattle.records.specs.declared.Freelist.the-variants.{Ordered}
+use Rattle.records.specs.declared.Policy.the-variants.{Ordered}
 use Rattle.records.specs.declared.Block.{Block}
 use Rattle.records.specs.declared.Shape.{Shape}
 use Rattle.records.specs.declared.Header.{Header}
@@ -41,7 +41,7 @@ pub hands-out : (h : Header) (l l₁ : List ℕ) (p m n : ℕ) (r : Request) (b 
 hands-out h l l₁ p m n r b is e f = rw (e, f, is) refl
 
 -- the k-th node, which stands at p and has the room that the request needs, left the list: the bytes and the first node then, and the list that they hold
-pub record Left (h : Header) (l : List ℕ) (segs : List Seg) (r : Request) (count k p size n : ℕ) (l₁ : List ℕ) (first : ℕ) : Type 0 where
+pub record NodeOut (h : Header) (l : List ℕ) (segs : List Seg) (r : Request) (count k p size n : ℕ) (l₁ : List ℕ) (first : ℕ) : Type 0 where
   pub needs : n ≡ need r
   pub room : n ≤ size
   pub node : getD segs k nowhere ≡ record { offset = p; size = size }
@@ -52,16 +52,16 @@ pub record Left (h : Header) (l : List ℕ) (segs : List Seg) (r : Request) (cou
   pub inside : p + 8 + size ≤ length l₁
   pub limited : length l₁ ≤ limit
 
-pub node-left : (s : Shape) (h : Header) (l l₁ : List ℕ) (o : Order) (r : Request) (spot : Spot) (first count size n first₁ : ℕ) → sound s h l ≡ true → s .freelist ≡ Ordered o
+pub node-out : (s : Shape) (h : Header) (l l₁ : List ℕ) (o : Order) (r : Request) (spot : Spot) (first count size n first₁ : ℕ) → sound s h l ≡ true → s .policy ≡ Ordered o
     → first ≡ firstOf h → count ≡ length (free s h l) → n ≡ need r → Serves (free s h l) (need r) spot → size ≡ sizeHalf (wordAt l (spot .next))
     → Removed l (passed (wordAt l) count first) first (spot .index) l₁ first₁
-    → Left h l (free s h l) r count (spot .index) (spot .next) size n l₁ first₁
-node-left s h l l₁ o r spot first count size n first₁ good policy starts counted needs v is gone =
+    → NodeOut h l (free s h l) r count (spot .index) (spot .next) size n l₁ first₁
+node-out s h l l₁ o r spot first count size n first₁ good policy starts counted needs v is gone =
     let segs = free s h l in
     let k = spot .index in
     let list = sound-listed s h l good o policy in
     let gone₁ : Removed l segs (firstOf h) k l₁ first₁ = rw (free-held s h l first count good starts counted .are, starts) at gone in
-    let node : getD segs k nowhere ≡ record { offset = spot .next; size = size } = rw (run-node (wordAt l) (firstOf h) endMark k segs nowhere (list .run) (v .inside), ← v .stands .before, is) refl in
+    let node : getD segs k nowhere ≡ record { offset = spot .next; size = size } = rw (run-node (wordAt l) (firstOf h) endMark k segs nowhere (list .run) (v .inside), ← v .stands .ahead, is) refl in
     let range = all-at (InRange (s .«data_offset») (h .allocated)) k segs nowhere (v .inside) (list .good .ranged) in
     let room : InRange (s .«data_offset») (h .allocated) (record { offset = spot .next; size = size }) = rw node at range in
     let rest : Listed l₁ first₁ (s .«data_offset») (h .allocated) o (removeAt k segs) = rw (gone₁ .bytes, gone₁ .starts) (listed-remove _ _ _ _ _ _ list k (v .inside)) in
@@ -80,14 +80,14 @@ node-left s h l l₁ o r spot first count size n first₁ good policy starts cou
       limited = rest .limited;
     }
 
-module _ {h : Header} {l l₁ : List ℕ} {segs : List Seg} {r : Request} {count k p size n first : ℕ} (g : Left h l segs r count k p size n l₁ first) where
+module _ {h : Header} {l l₁ : List ℕ} {segs : List Seg} {r : Request} {count k p size n first : ℕ} (g : NodeOut h l segs r count k p size n l₁ first) where
   -- 01: else memory is (p, s) and discarded stays
-  pub serves-whole : (h₁ : Header) (o : Order) → segmentOf (h .«min_segment_size») (p + 8 + n) (size - n) ≡ Refused → h₁ ≡ withFirst h first → handedOut h₁ l₁ p size r ≡ serve h l segs o r k
+  pub serves-whole : (h₁ : Header) (o : Order) → segmentOf (h .«minimum_segment_size») (p + 8 + n) (size - n) ≡ Refused → h₁ ≡ withFirst h first → handedOut h₁ l₁ p size r ≡ serve h l segs o r k
   unfolding serve serveFrom
   serves-whole h₁ o e a = simp (g .node, ← g .needs, e, ← g .bytes, ← g .starts, a)
 
   -- what the rule accepts goes back
-  module _ (q m : ℕ) (e : segmentOf (h .«min_segment_size») (p + 8 + n) (size - n) ≡ At q m) where
+  module _ (q m : ℕ) (e : segmentOf (h .«minimum_segment_size») (p + 8 + n) (size - n) ≡ At q m) where
     pub split-inside : q + 8 + m ≤ length l₁
     split-inside = omega (arith, cut-of _ _ _ _ _ e .ends, g .room, g .inside)
 

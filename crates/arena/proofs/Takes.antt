@@ -15,7 +15,7 @@ use Rattle.records.proofs.Facts.{both, picked}
 use Rattle.records.specs.Change.{withTop}
 use Rattle.records.specs.declared.Order.{Order}
 use Rattle.records.specs.declared.Order.the-variants.{Optimistic, Pessimistic}
-use Rattle.records.specs.declared.Freelist.the-variants.{None, Ordered}
+use Rattle.records.specs.declared.Policy.the-variants.{None, Ordered}
 use Rattle.records.specs.declared.Shape.{Shape}
 use Rattle.records.specs.declared.Header.{Header}
 use Rattle.records.specs.declared.Request.{Request}
@@ -102,7 +102,7 @@ module _ (s : Shape) (h : Header) (l : List ℕ) (r : Request) where
       unfolding taking
       takes-unsound e = simp (k .writable, k .formed, k .head, ← (k .simple), some, passes-cap, e)
 
-      pub takes-past : sound s h l ≡ true → pastTop (s .freelist) s h l p ≡ taking s h l r
+      pub takes-past : sound s h l ≡ true → pastTop (s .policy) s h l p ≡ taking s h l r
       unfolding taking
       takes-past e = simp (k .writable, k .formed, k .head, ← (k .simple), some, passes-cap, e)
 
@@ -117,17 +117,17 @@ takes-room s h h₁ l l₁ r p end at from m room f g =
 
 -- past the top, by the policy and by what the search of the list finds
 module _ (s : Shape) (h : Header) (l : List ℕ) (r : Request) where
-  pub past-none : s .freelist ≡ None → (requested available : ℕ) → requested ≡ asked (h .allocated) r → available ≡ s .cap - h .allocated
-      → refuses 9 (requested ∷ available ∷ []) h l ≡ pastTop (s .freelist) s h l r
+  pub past-none : s .policy ≡ None → (requested available : ℕ) → requested ≡ asked (h .allocated) r → available ≡ s .cap - h .allocated
+      → refuses 9 (requested ∷ available ∷ []) h l ≡ pastTop (s .policy) s h l r
   unfolding pastTop
   past-none e requested available a b = rw (e, a, b) refl
 
-  module _ (o : Order) (policy : s .freelist ≡ Ordered o) (n : ℕ) (is : n ≡ need r) where
-    pub past-missed : (room : ℕ) → look o n (s .cap - h .allocated) (free s h l) ≡ missed room → refuses 9 (n ∷ room ∷ []) h l ≡ pastTop (s .freelist) s h l r
+  module _ (o : Order) (policy : s .policy ≡ Ordered o) (n : ℕ) (is : n ≡ need r) where
+    pub past-missed : (room : ℕ) → look o n (s .cap - h .allocated) (free s h l) ≡ missed room → refuses 9 (n ∷ room ∷ []) h l ≡ pastTop (s .policy) s h l r
     unfolding pastTop fromList
     past-missed room e = simp (policy, ← is, e)
 
-    pub past-found : (k : ℕ) → look o n (s .cap - h .allocated) (free s h l) ≡ found k → serve h l (free s h l) o r k ≡ pastTop (s .freelist) s h l r
+    pub past-found : (k : ℕ) → look o n (s .cap - h .allocated) (free s h l) ≡ found k → serve h l (free s h l) o r k ≡ pastTop (s .policy) s h l r
     unfolding pastTop fromList
     past-found k e = simp (policy, ← is, e)
 
@@ -149,7 +149,7 @@ module _ (o : Order) (n room : ℕ) (order : o ≡ Optimistic) where
     looks-first [] run some h = absurd (omega arith)
     looks-first (s ∷ ss) run some h =
         rw (order, run .1, ← is, le-leb n size h)
-        (refl, record { inside = omega arith; stands = record { after = refl; before = refl }; room = h })
+        (refl, record { inside = omega arith; stands = record { behind = refl; ahead = refl }; room = h })
 
 -- a pessimistic search looks for the first node with room
 module _ (o : Order) (n room : ℕ) (order : o ≡ Pessimistic) (segs : List Seg) (spot : Spot) (first : Spotted segs (passes (Room n)) (spot .prev) (spot .next) (spot .index)) where

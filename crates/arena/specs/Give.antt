@@ -4,13 +4,13 @@ use mathlib.Core.Bool.{true, false, _||_, not}
 use mathlib.Core.List.{List, [], _∷_}
 use lib.Dec.{ltb, eqb}
 use Rattle.words.specs.Word.{nextHalf}
-use Rattle.records.specs.Pick.{pick}
+use Rattle.words.specs.Pick.{pick}
 use Rattle.records.specs.Answer.{Outcome, leaves, refuses, givenBack}
 use Rattle.records.specs.Rule.{segmentOf}
 use Rattle.records.specs.Change.{withTop, withFirst, losing}
 use Rattle.records.specs.declared.Order.{Order}
-use Rattle.records.specs.declared.Freelist.{Freelist}
-use Rattle.records.specs.declared.Freelist.the-variants.{None, Ordered}
+use Rattle.records.specs.declared.Policy.{Policy}
+use Rattle.records.specs.declared.Policy.the-variants.{None, Ordered}
 use Rattle.records.specs.declared.Shape.{Shape}
 use Rattle.records.specs.declared.Header.{Header}
 use Rattle.records.specs.declared.Segment.{Segment}
@@ -31,10 +31,10 @@ putIn h l segs o size (At p n) =
     leaves (givenBack true) (losing (withFirst h (insertHead (nextHalf (h .sentinel)) segs k q)) 8) (insertBytes l segs k q)
 
 -- 01: else None: discarded grows by size, true
-unfoldable pub belowTop : Freelist → Shape → Header → List ℕ → ℕ → ℕ → Outcome
+unfoldable pub belowTop : Policy → Shape → Header → List ℕ → ℕ → ℕ → Outcome
 belowTop None s h l offset size = leaves (givenBack true) (losing h size) l
 belowTop (Ordered o) s h l offset size =
-    putIn h l (free s h l) o size (segmentOf (h .«min_segment_size») offset size)
+    putIn h l (free s h l) o size (segmentOf (h .«minimum_segment_size») offset size)
 
 -- 01: give-back 1, 4, 6, 7; then if offset + size = allocated, allocated becomes offset, answer true
 unfoldable pub givingBack : Shape → Header → List ℕ → ℕ → ℕ → Outcome
@@ -44,4 +44,4 @@ givingBack s h l offset size =
     (pick (ltb offset (s .«data_offset») || ltb (h .allocated) (offset + size)) (refuses 6 (offset ∷ h .allocated ∷ []) h l)
     (pick (meets (free s h l) offset (offset + size)) (refuses 7 [] h l)
     (pick (eqb (offset + size) (h .allocated)) (leaves (givenBack true) (withTop h offset) l)
-    (belowTop (s .freelist) s h l offset size)))))
+    (belowTop (s .policy) s h l offset size)))))

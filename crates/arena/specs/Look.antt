@@ -5,7 +5,7 @@ use mathlib.Core.Bool.{not, _&&_}
 use mathlib.Core.List.{List}
 use lib.ListN.{length, getD}
 use Rattle.words.specs.Word.{zeroed}
-use Rattle.records.specs.Pick.{pick}
+use Rattle.words.specs.Pick.{pick}
 use Rattle.records.specs.Answer.{Outcome, leaves, granted}
 use Rattle.records.specs.Head.{headSound}
 use Rattle.records.specs.declared.Order.{Order}

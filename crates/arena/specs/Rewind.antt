@@ -4,10 +4,10 @@ use mathlib.Core.Bool.{not}
 use mathlib.Core.List.{List, []}
 use lib.ListN.{length}
 use Rattle.words.specs.Word.{endMark}
-use Rattle.records.specs.Pick.{pick}
+use Rattle.words.specs.Pick.{pick}
 use Rattle.records.specs.Answer.{Outcome, leaves, refuses, sum, done}
 use Rattle.records.specs.Head.{headSound}
-use Rattle.records.specs.Change.{withTop, withFirst, withLeast, losing}
+use Rattle.records.specs.Change.{withTop, withFirst, withMinimum, losing}
 use Rattle.records.specs.declared.Shape.{Shape}
 use Rattle.records.specs.declared.Header.{Header}
 use Rattle.records.specs.declared.Position.{Position}
@@ -43,7 +43,7 @@ setting s h l next =
     (leaves done next l))
 
 abbrev pub settingMinimum : Shape → Header → List ℕ → ℕ → Outcome
-settingMinimum s h l least = setting s h l (withLeast h least)
+settingMinimum s h l least = setting s h l (withMinimum h least)
 
 abbrev pub addingDiscarded : Shape → Header → List ℕ → ℕ → Outcome
 addingDiscarded s h l n = setting s h l (losing h n)

@@ -5,15 +5,15 @@ use mathlib.Core.List.{List, [], _∷_}
 use lib.Dec.{leb, ltb}
 use lib.ListN.{length, getD}
 use Rattle.words.specs.Word.{zeroed, nextHalf}
-use Rattle.records.specs.Pick.{pick}
+use Rattle.words.specs.Pick.{pick}
 use Rattle.records.specs.Answer.{Outcome, leaves, refuses, granted, nothing}
 use Rattle.records.specs.Head.{headSound}
 use Rattle.records.specs.Rule.{segmentOf}
 use Rattle.records.specs.Change.{withTop, withFirst, losing}
 use Rattle.records.specs.declared.Order.{Order}
 use Rattle.records.specs.declared.Order.the-variants.{Optimistic, Pessimistic}
-use Rattle.records.specs.declared.Freelist.{Freelist}
-use Rattle.records.specs.declared.Freelist.the-variants.{None, Ordered}
+use Rattle.records.specs.declared.Policy.{Policy}
+use Rattle.records.specs.declared.Policy.the-variants.{None, Ordered}
 use Rattle.records.specs.declared.Shape.{Shape}
 use Rattle.records.specs.declared.Header.{Header}
 use Rattle.records.specs.declared.Request.{Request}
@@ -71,14 +71,14 @@ unfoldable pub serve : Header → List ℕ → List Seg → Order → Request �
 serve h l segs o r k =
     let g = getD segs k nowhere in
     serveFrom h (removeBytes l segs k) (removeHead (nextHalf (h .sentinel)) segs k) (removeAt k segs) o r g
-    (segmentOf (h .«min_segment_size») (g .offset + 8 + need r) (g .size - need r))
+    (segmentOf (h .«minimum_segment_size») (g .offset + 8 + need r) (g .size - need r))
 
 unfoldable pub fromList : Header → List ℕ → List Seg → Order → Request → Found → Outcome
 fromList h l segs o r (missed room) = refuses 9 (need r ∷ room ∷ []) h l
 fromList h l segs o r (found k) = serve h l segs o r k
 
 -- 01: past cap, policy None refuses 9 (requested, cap - allocated); otherwise the list is searched
-unfoldable pub pastTop : Freelist → Shape → Header → List ℕ → Request → Outcome
+unfoldable pub pastTop : Policy → Shape → Header → List ℕ → Request → Outcome
 pastTop None s h l r = refuses 9 (asked (h .allocated) r ∷ (s .cap - h .allocated) ∷ []) h l
 pastTop (Ordered o) s h l r =
     fromList h l (free s h l) o r (look o (need r) (s .cap - h .allocated) (free s h l))
@@ -92,4 +92,4 @@ taking s h l r =
     (pick (forNothing (plain r)) (leaves nothing h l)
     (pick (leb (want (h .allocated) (plain r)) (s .cap)) (fromTop h l (plain r))
     (pick (not (sound s h l)) (refuses 4 [] h l)
-    (pastTop (s .freelist) s h l (plain r)))))))
+    (pastTop (s .policy) s h l (plain r)))))))

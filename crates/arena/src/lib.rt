@@ -6,9 +6,9 @@ use freelist::Spot;
 use freelist::Test;
 use records::Answer;
 use records::Block;
-use records::Freelist;
 use records::Header;
 use records::Order;
+use records::Policy;
 use records::Position;
 use records::Reply;
 use records::Request;
@@ -20,7 +20,7 @@ ghost use Prim.Native.Nat.{_+_, _-_, _≤_, _<_};
 ghost use lib.ListN.{length};
 ghost use Rattle.records.specs.Answer.{outcome};
 ghost use Rattle.records.specs.Setup.{limit};
-ghost use Rattle.records.specs.declared.Freelist.the-variants.{Ordered};
+ghost use Rattle.records.specs.declared.Policy.the-variants.{Ordered};
 ghost use Rattle.records.specs.declared.Request.the-variants.{Bytes, Typed, Aligned};
 ghost use Rattle.requests.specs.Request.{wellFormed, need};
 ghost use Rattle.freelist.specs.Sound.{sound, free};
@@ -142,7 +142,7 @@ fn take_node(
     spot: Spot,
 ) -> Reply
     requires { ⌜ (sound shape header (now buf) ≡ true) × (count ≡ length (free shape header (now buf))) ⌝ }
-    requires { ⌜ (shape .freelist ≡ Ordered order) × (wellFormed request ≡ true) ⌝ }
+    requires { ⌜ (shape .policy ≡ Ordered order) × (wellFormed request ≡ true) ⌝ }
     requires { ⌜ Serves (free shape header (now buf)) (need request) spot ⌝ }
     ensures { λ r. ⌜ outcome r (now (buf .exit)) ≡ serve header (now (buf .entry)) (free shape header (now (buf .entry))) order request (spot .index) ⌝ }
 {
@@ -151,7 +151,11 @@ fn take_node(
     let size = words::node_at(buf, p).size as usize;
     let first = freelist::remove(buf, records::first_of(header) as usize, count, spot);
     let end = p + NODE_SIZE as usize + need;
-    let rest = records::segment_of(header.min_segment_size, end as u32, (size - need) as u32);
+    let rest = records::segment_of(
+        header.minimum_segment_size,
+        end as u32,
+        (size - need) as u32,
+    );
     match rest {
         Segment::Refused => {
             let next = records::with_first(header, first as u32);
@@ -169,10 +173,10 @@ fn take_node(
 fn past_top(shape: Shape, header: Header, buf: &mut [u8], count: usize, request: Request) -> Reply
     requires { ⌜ (sound shape header (now buf) ≡ true) × (count ≡ length (free shape header (now buf))) ⌝ }
     requires { ⌜ wellFormed request ≡ true ⌝ }
-    ensures { λ r. ⌜ outcome r (now (buf .exit)) ≡ pastTop (shape .freelist) shape header (now (buf .entry)) request ⌝ }
+    ensures { λ r. ⌜ outcome r (now (buf .exit)) ≡ pastTop (shape .policy) shape header (now (buf .entry)) request ⌝ }
 {
-    let policy = shape.freelist;
-    let Freelist::Ordered(order) = policy else {
+    let policy = shape.policy;
+    let Policy::Ordered(order) = policy else {
         let requested = requests::asked_of(header.allocated, request) as u32;
         let available = records::remaining(shape, header);
         return Reply {
@@ -305,16 +309,16 @@ fn give_below(
     requires { ⌜ (sound shape header (now buf) ≡ true) × (count ≡ length (free shape header (now buf))) ⌝ }
     requires { ⌜ offset + size ≤ header .allocated ⌝ }
     ensures { λ r.
-        ⌜ outcome r (now (buf .exit)) ≡ belowTop (shape .freelist) shape header (now (buf .entry)) offset size ⌝ }
+        ⌜ outcome r (now (buf .exit)) ≡ belowTop (shape .policy) shape header (now (buf .entry)) offset size ⌝ }
 {
-    let policy = shape.freelist;
-    let Freelist::Ordered(order) = policy else {
+    let policy = shape.policy;
+    let Policy::Ordered(order) = policy else {
         return Reply {
             answer: Answer::GivenBack(true),
             header: records::lose(header, size),
         };
     };
-    let segment = records::segment_of(header.min_segment_size, offset, size);
+    let segment = records::segment_of(header.minimum_segment_size, offset, size);
     let Segment::At {
         offset: node,
         size: rest,

@@ -1,34 +1,38 @@
--- The laws of the boundary. The outcome of a call on the arena that came over, sent, is what crosses. Nothing is lost on the way: load
+-- The laws of the boundary. The outcome of a call on the arena that came over, sent, is what crosses. A shape that names no policy, by its code or by a
+-- byte that is no truth, is damaged. Nothing is lost on the way: load
 -- then store gives back the six numbers, store then load the header, a shape and a header that were sent are received as they were, and
 -- two answers with the same five numbers say the same.
 -- Assumes nothing.
-use Prim.Native.Nat.{ℕ, _<_}
+use Prim.Native.Nat.{ℕ, _<_, _≤_}
 use mathlib.Core.Path.{_≡_, refl, ap, sym, _∙_}
 use mathlib.Core.Bool.{Bool, true, false, _||_}
 use mathlib.Core.List.{List, [], _∷_}
 use native.Mathlib.Omega.{arith}
+use borrow.Author.Tests.{le-leb, lt-leb}
 use lib.Dec.{eqb}
 use lib.ListN.{length, getD}
 use lib.Seq.{set-getD, sets-eq}
 use Rattle.words.specs.Word.{nodeWord, sizeHalf, nextHalf}
 use Rattle.words.proofs.Digits.{word-size, word-next}
-use Rattle.records.specs.Pick.{pick}
-use Rattle.records.specs.Answer.{Outcome, outcome, leaves, Said, said, granted, nothing, givenBack, sum, done, refused}
-use Rattle.records.specs.Setup.{dataOffset, policyOf}
+use Rattle.words.specs.Pick.{pick}
+use Rattle.records.specs.Answer.{Outcome, outcome, leaves, Said, said, granted, nothing, givenBack, sum, done, refused, Began}
+use Rattle.records.specs.Setup.{dataOffset, policyOf, settingUp}
 use Rattle.records.specs.Head.{headSound}
 use Rattle.records.proofs.Facts.{head-no}
 use Rattle.records.specs.declared.Answer.{Answer}
 use Rattle.records.specs.declared.Answer.the-variants.{Granted, Nothing, GivenBack, Sum, Done, ReadOnly, Damaged, BadLayout, OutOfBounds, Overlap, CutsFreeList, InsufficientSpace}
-use Rattle.records.specs.declared.Freelist.{Freelist}
-use Rattle.records.specs.declared.Freelist.the-variants.{None, Ordered}
+use Rattle.records.specs.declared.Policy.{Policy}
+use Rattle.records.specs.declared.Policy.the-variants.{None, Ordered}
 use Rattle.records.specs.declared.Header.{Header}
 use Rattle.records.specs.declared.Order.the-variants.{Optimistic, Pessimistic}
-use Rattle.records.specs.declared.Policy.the-variants.{Known, Unknown}
+use Rattle.records.specs.declared.Named.the-variants.{Known, Unknown}
 use Rattle.records.specs.declared.Reply.{Reply}
+use Rattle.records.specs.declared.Settings.{Settings}
 use Rattle.records.specs.declared.Shape.{Shape}
 use Rattle.records.proofs.Rules.{policy-codes}
-use Rattle.exports.specs.Crossing.{headerOf, stored, codeOf, shapeOut, shapeIn, answerOf, Sent, crossed, crossing}
+use Rattle.exports.specs.Crossing.{headerOf, stored, codeOf, truth, yes, isTruth, shapeOut, namedBy, shapeIn, answerOf, Sent, crossed, crossing, settingsOf, opened, openingBy, unopened, opening}
 use Rattle.exports.specs.declared.CAnswer.{CAnswer}
+use Rattle.exports.specs.declared.CBegun.{CBegun}
 use Rattle.exports.specs.declared.CShape.{CShape}
 
 -- load, then store: the six numbers are what they were, since the first is a u32
@@ -39,7 +43,7 @@ stored-same n h = simp (word-next (getD n 1 0) (getD n 0 0) h, word-size (getD n
 pub loaded-same : (n : List ℕ) (h : Header) → length n ≡ 6 → headerOf (stored n h) ≡ h
 loaded-same n h six =
     let joined : nodeWord (sizeHalf (h .sentinel)) (nextHalf (h .sentinel)) ≡ h .sentinel = omega arith in
-    let first : List ℕ = nextHalf (h .sentinel) ∷ sizeHalf (h .sentinel) ∷ h .allocated ∷ h .«min_segment_size» ∷ h .discarded ∷ [] in
+    let first : List ℕ = nextHalf (h .sentinel) ∷ sizeHalf (h .sentinel) ∷ h .allocated ∷ h .«minimum_segment_size» ∷ h .discarded ∷ [] in
     ap headerOf (sets-eq first n 0 (omega arith)) ∙ simp joined
 
 module _ (c : CShape) (n l : List ℕ) (call : Shape → Header → List ℕ → Outcome) where
@@ -56,15 +60,24 @@ module _ (c : CShape) (n l : List ℕ) (call : Shape → Header → List ℕ →
   crosses-same {x = x} did h = simp did (ap (λ (m : List ℕ). crossed (answerOf x) m l) (stored-same n h))
 
 -- a policy's code names it
-code-names : (f : Freelist) → policyOf (codeOf f) ≡ Known f
+code-names : (f : Policy) → policyOf (codeOf f) ≡ Known f
 code-names None = policy-codes .0
 code-names (Ordered Optimistic) = policy-codes .1
 code-names (Ordered Pessimistic) = policy-codes .2
 
+-- a truth's byte is a truth, and says it
+truth-is : (b : Bool) → isTruth (truth b) ≡ true
+truth-is true = refl
+truth-is false = refl
+
+truth-says : (b : Bool) → yes (truth b) ≡ b
+truth-says true = refl
+truth-says false = refl
+
 -- a shape that was sent is received as it was
 pub sent-received : (s : Shape) → shapeIn (shapeOut s) ≡ s
-unfolding shapeIn
-sent-received s = simp (code-names (s .freelist))
+unfolding shapeIn namedBy
+sent-received s = simp (truth-is (s .unify), truth-is (s .«read_only»), code-names (s .policy), truth-says (s .unify), truth-says (s .«read_only»))
 
 -- no data offset is 0
 offset-above : (reserved : ℕ) (unify : Bool) → dataOffset reserved unify ≡ 0 → ⊥
@@ -72,10 +85,42 @@ unfolding dataOffset
 offset-above reserved true e = omega arith
 offset-above reserved false e = omega arith
 
--- over a shape whose code names no policy no head is sound
-pub unknown-damaged : (c : CShape) (h : Header) (n : ℕ) → policyOf (c .freelist) ≡ Unknown → headSound (shapeIn c) h n ≡ false
+-- what a shape names, by its three bytes
+module _ (c : CShape) where
+  pub names-none-unify : 1 < c .unify → Unknown ≡ namedBy c
+  unfolding namedBy
+  names-none-unify h = simp (lt-leb _ _ h)
+
+  module _ (unify : c .unify ≤ 1) where
+    pub names-none-read-only : 1 < c .«read_only» → Unknown ≡ namedBy c
+    unfolding namedBy
+    names-none-read-only h = simp (le-leb _ _ unify, lt-leb _ _ h)
+
+    pub names-policy : c .«read_only» ≤ 1 → policyOf (c .policy) ≡ namedBy c
+    unfolding namedBy
+    names-policy h = simp (le-leb _ _ unify, le-leb _ _ h)
+
+-- over a shape that names no policy no head is sound
+pub unknown-damaged : (c : CShape) (h : Header) (n : ℕ) → namedBy c ≡ Unknown → headSound (shapeIn c) h n ≡ false
 unfolding shapeIn
-unknown-damaged c h n e = simp e (head-no _ h n (λ k. offset-above (c .reserved) (c .unify) (sym (k .start))))
+unknown-damaged c h n e = simp e (head-no _ h n (λ k. offset-above (c .reserved) (yes (c .unify)) (sym (k .start))))
+
+-- setup: refused for a byte that is no truth, or as the settings have it
+module _ (reserved unify policy least readOnly cap : ℕ) (n : List ℕ) where
+  pub opens-none-unify : {b : CBegun} → b ≡ unopened (policyOf policy) → 1 < unify → opened b n ≡ opening reserved unify policy least readOnly cap n
+  unfolding opening
+  opens-none-unify e h = simp (e, lt-leb _ _ h)
+
+  module _ (truth : unify ≤ 1) where
+    pub opens-none-read-only : {b : CBegun} → b ≡ unopened (policyOf policy) → 1 < readOnly → opened b n ≡ opening reserved unify policy least readOnly cap n
+    unfolding opening
+    opens-none-read-only e h = simp (e, le-leb _ _ truth, lt-leb _ _ h)
+
+    -- what setup answers, sent
+    pub opens-as-set : readOnly ≤ 1 → {t : Settings} {x : Began} {b : CBegun} {m : List ℕ}
+        → t ≡ settingsOf reserved unify policy least readOnly → x ≡ settingUp t cap → opened b m ≡ openingBy x n → opened b m ≡ opening reserved unify policy least readOnly cap n
+    unfolding opening
+    opens-as-set h set told sent = simp (le-leb _ _ truth, le-leb _ _ h) (sent ∙ ap (λ (y : Began). openingBy y n) (told ∙ ap (λ (u : Settings). settingUp u cap) set))
 
 -- what five numbers say
 heard : CAnswer → Said

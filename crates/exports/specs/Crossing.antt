@@ -1,17 +1,19 @@
 -- What crosses the boundary to Rust and C: numbers, a header as six numbers, and bytes. The calls behind it are document 01's.
 use Prim.Native.Nat.{ℕ}
 use mathlib.Core.Path.{_≡_}
-use mathlib.Core.Bool.{Bool, true, false}
+use mathlib.Core.Bool.{Bool, true, false, _&&_}
 use mathlib.Core.List.{List}
+use lib.Dec.{leb, eqb}
 use lib.ListN.{getD, set}
+use Rattle.words.specs.Pick.{pick}
 use Rattle.words.specs.Word.{nodeWord, sizeHalf, nextHalf}
 use Rattle.records.specs.Answer.{Outcome, Said, said, granted, nothing, givenBack, sum, done, refused, Began, ready, unready}
 use Rattle.records.specs.Setup.{policyOf, settingUp}
 use Rattle.records.specs.declared.Order.the-variants.{Optimistic, Pessimistic}
-use Rattle.records.specs.declared.Freelist.{Freelist}
-use Rattle.records.specs.declared.Freelist.the-variants.{None, Ordered}
 use Rattle.records.specs.declared.Policy.{Policy}
-use Rattle.records.specs.declared.Policy.the-variants.{Known, Unknown}
+use Rattle.records.specs.declared.Policy.the-variants.{None, Ordered}
+use Rattle.records.specs.declared.Named.{Named}
+use Rattle.records.specs.declared.Named.the-variants.{Known, Unknown}
 use Rattle.records.specs.declared.Settings.{Settings}
 use Rattle.records.specs.declared.Shape.{Shape}
 use Rattle.records.specs.declared.Header.{Header}
@@ -26,20 +28,31 @@ headerOf n =
     record {
       sentinel = nodeWord (getD n 1 0) (getD n 0 0);
       allocated = getD n 2 0;
-      «min_segment_size» = getD n 3 0;
+      «minimum_segment_size» = getD n 3 0;
       discarded = getD n 4 0;
     }
 
 -- these six numbers with a header put in
 abbrev pub stored : List ℕ → Header → List ℕ
 stored n h =
-    set (set (set (set (set n 0 (nextHalf (h .sentinel))) 1 (sizeHalf (h .sentinel))) 2 (h .allocated)) 3 (h .«min_segment_size»)) 4 (h .discarded)
+    set (set (set (set (set n 0 (nextHalf (h .sentinel))) 1 (sizeHalf (h .sentinel))) 2 (h .allocated)) 3 (h .«minimum_segment_size»)) 4 (h .discarded)
 
 -- the policy's code, the inverse of policyOf
-abbrev pub codeOf : Freelist → ℕ
+abbrev pub codeOf : Policy → ℕ
 codeOf None = 0
 codeOf (Ordered Optimistic) = 1
 codeOf (Ordered Pessimistic) = 2
+
+-- a truth crosses as a byte, 1 for yes and 0 for no; any other byte is none
+abbrev pub truth : Bool → ℕ
+truth true = 1
+truth false = 0
+
+abbrev pub yes : ℕ → Bool
+yes b = eqb b 1
+
+abbrev pub isTruth : ℕ → Bool
+isTruth b = leb b 1
 
 -- a shape as it goes out
 abbrev pub shapeOut : Shape → CShape
@@ -48,38 +61,38 @@ shapeOut s =
       cap = s .cap;
       reserved = s .reserved;
       «data_offset» = s .«data_offset»;
-      unify = s .unify;
-      «read_only» = s .«read_only»;
-      freelist = codeOf (s .freelist);
+      unify = truth (s .unify);
+      «read_only» = truth (s .«read_only»);
+      policy = codeOf (s .policy);
     }
 
 -- a shape that came over, with this data offset and this policy
-abbrev pub shapeWith : CShape → ℕ → Freelist → Shape
+abbrev pub shapeWith : CShape → ℕ → Policy → Shape
 shapeWith c start f =
     record {
       cap = c .cap;
       reserved = c .reserved;
       «data_offset» = start;
-      unify = c .unify;
-      «read_only» = c .«read_only»;
-      freelist = f;
+      unify = yes (c .unify);
+      «read_only» = yes (c .«read_only»);
+      policy = f;
     }
 
--- a shape as it comes in. A code that names no policy is damage: such a shape gets the data offset 0, over which no head is sound
-abbrev pub shapeBy : Policy → CShape → Shape
+-- what a shape names: the policy by its code, and none where `unify` or `read_only` is neither 0 nor 1
+unfoldable pub namedBy : CShape → Named
+namedBy c = pick (isTruth (c .unify) && isTruth (c .«read_only»)) (policyOf (c .policy)) Unknown
+
+-- a shape as it comes in. One that names no policy is damaged: it gets the data offset 0, over which no head is sound
+abbrev pub shapeBy : Named → CShape → Shape
 shapeBy (Known f) c = shapeWith c (c .«data_offset») f
 shapeBy Unknown c = shapeWith c 0 None
 
 unfoldable pub shapeIn : CShape → Shape
-shapeIn c = shapeBy (policyOf (c .freelist)) c
+shapeIn c = shapeBy (namedBy c) c
 
 -- an answer's five numbers
 abbrev pub numbersOf : ℕ → ℕ → ℕ → ℕ → ℕ → CAnswer
 numbersOf code a b c d = record { code = code; first = a; second = b; third = c; fourth = d }
-
-abbrev pub truth : Bool → ℕ
-truth true = 1
-truth false = 0
 
 -- a refusal's code is its number in 01; 100 is granted, 101 nothing, 102 given back, 103 a sum, 104 done; 0 stands where nothing is carried
 abbrev pub answerOf : Said → CAnswer
@@ -112,9 +125,9 @@ unfoldable pub crossing : CShape → List ℕ → List ℕ → (Shape → Header
 crossing c n l call = crossedBy n (call (shapeIn c) (headerOf n) l)
 
 -- what setup is asked for
-abbrev pub asked : ℕ → Bool → ℕ → ℕ → Bool → Settings
-asked reserved unify policy least readOnly =
-    record { reserved = reserved; unify = unify; policy = policy; «min_segment_size» = least; «read_only» = readOnly }
+abbrev pub settingsOf : ℕ → ℕ → ℕ → ℕ → ℕ → Settings
+settingsOf reserved unify policy least readOnly =
+    record { reserved = reserved; unify = yes unify; policy = policy; «minimum_segment_size» = least; «read_only» = yes readOnly }
 
 -- all that setup leaves on the other side
 pub record Opened : Type 0 where
@@ -128,13 +141,20 @@ abbrev pub begunOf : ℕ → CShape → CBegun
 begunOf code c = record { code = code; shape = c }
 
 abbrev pub noShape : CShape
-noShape = record { cap = 0; reserved = 0; «data_offset» = 0; unify = false; «read_only» = false; freelist = 0 }
+noShape = record { cap = 0; reserved = 0; «data_offset» = 0; unify = 0; «read_only» = 0; policy = 0 }
 
 -- 104 with the shape and a fresh header, or a refusal with neither
 abbrev pub openingBy : Began → List ℕ → Opened
-openingBy (ready s h) n = opened (begunOf 104 (shapeOut s)) (stored n h)
+openingBy (ready s h) n = opened (begunOf (answerOf done .code) (shapeOut s)) (stored n h)
 openingBy (unready code) n = opened (begunOf code noShape) n
 
+-- a setup whose `unify` or `read_only` is neither 0 nor 1 is refused 3. 01: setup 2, 3
+abbrev pub unopened : Named → CBegun
+unopened Unknown = begunOf 2 noShape
+unopened (Known f) = begunOf 3 noShape
+
 -- setup over a buffer of cap bytes
-unfoldable pub opening : Settings → ℕ → List ℕ → Opened
-opening s cap n = openingBy (settingUp s cap) n
+unfoldable pub opening : ℕ → ℕ → ℕ → ℕ → ℕ → ℕ → List ℕ → Opened
+opening reserved unify policy least readOnly cap n =
+    pick (isTruth unify && isTruth readOnly) (openingBy (settingUp (settingsOf reserved unify policy least readOnly) cap) n)
+    (opened (unopened (policyOf policy)) n)

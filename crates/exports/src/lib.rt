@@ -2,12 +2,12 @@
 // pointer and a length, and the header as six u32 in place: the sentinel's next half and size half, allocated, minimum,
 // discarded, and one that is left alone. Those are the 24 bytes of the record that rarena keeps.
 // Every call takes any shape, any header, any bytes and any numbers. Its contract is one equation that gives the answer, the six
-// numbers and every byte afterwards, also where it refuses. A shape whose policy code is none of 0, 1, 2 is damaged: no head
-// is sound over it.
+// numbers and every byte afterwards, also where it refuses. A shape whose policy code is none of 0, 1, 2, or whose `unify` or
+// `read_only` is neither 0 nor 1, is damaged: no head is sound over it.
 use records::Answer;
 use records::Begun;
-use records::Freelist;
 use records::Header;
+use records::Named;
 use records::Order;
 use records::Policy;
 use records::Position;
@@ -18,23 +18,36 @@ ghost use mathlib.Core.Path.{_≡_};
 ghost use Prim.Native.Nat.{_-_};
 ghost use lib.ListN.{length};
 ghost use Rattle.records.specs.Answer.{said};
+ghost use Rattle.records.specs.Setup.{policyOf};
 ghost use Rattle.records.specs.declared.Request.the-variants.{Bytes, Typed, Aligned};
 ghost use Rattle.records.specs.declared.Position.the-variants.{Start, Current, End};
 ghost use Rattle.freelist.specs.Sound.{sound};
 ghost use Rattle.arena.specs.Take.{taking};
 ghost use Rattle.arena.specs.Give.{givingBack};
 ghost use Rattle.arena.specs.Rewind.{discarding, rewinding, settingMinimum, addingDiscarded};
-ghost use Rattle.exports.specs.Crossing.{headerOf, stored, codeOf, shapeOut, shapeWith, shapeIn, numbersOf, truth, answerOf, Sent, crossed, crossing, begunOf, noShape, asked, opened, opening};
+ghost use Rattle.exports.specs.Crossing.{headerOf, stored, codeOf, truth, yes, shapeOut, shapeWith, namedBy, shapeIn, numbersOf, answerOf, Sent, crossed, crossing, begunOf, noShape, unopened, opened, opening};
 
-// An arena's shape, as setup gave it. The policy by its code: none 0, optimistic 1, pessimistic 2.
+// The codes of answers that are no refusals.
+const GRANTED: u32 = 100;
+
+const NOTHING: u32 = 101;
+
+const GIVEN_BACK: u32 = 102;
+
+const SUM: u32 = 103;
+
+const DONE: u32 = 104;
+
+// An arena's shape, as setup gave it. `unify` and `read_only` are 0 or 1; the policy by its code: none 0, optimistic 1,
+// pessimistic 2. They cross as bytes, since a shape may come from a file, where a byte can hold anything.
 #[repr(C)]
 pub struct CShape {
     pub cap: u32,
     pub reserved: u32,
     pub data_offset: u32,
-    pub unify: bool,
-    pub read_only: bool,
-    pub freelist: u8,
+    pub unify: u8,
+    pub read_only: u8,
+    pub policy: u8,
 }
 
 // An answer: its code, and what it carries.
@@ -61,7 +74,7 @@ fn load(header: &[u32; 6]) -> Header
     Header {
         sentinel: words::node_word(header[1], header[0]),
         allocated: header[2],
-        min_segment_size: header[3],
+        minimum_segment_size: header[3],
         discarded: header[4],
     }
 }
@@ -73,60 +86,87 @@ fn store(header: &mut [u32; 6], next: Header)
     header[0] = (next.sentinel % 4294967296) as u32;
     header[1] = (next.sentinel / 4294967296) as u32;
     header[2] = next.allocated;
-    header[3] = next.min_segment_size;
+    header[3] = next.minimum_segment_size;
     header[4] = next.discarded;
 }
 
 // The code of a policy.
-fn code_of(freelist: Freelist) -> u8
-    ensures { λ r. ⌜ r ≡ codeOf freelist ⌝ }
+fn code_of(policy: Policy) -> u8
+    ensures { λ r. ⌜ r ≡ codeOf policy ⌝ }
 {
-    match freelist {
-        Freelist::None => 0,
-        Freelist::Ordered(order) => match order {
+    match policy {
+        Policy::None => 0,
+        Policy::Ordered(order) => match order {
             Order::Optimistic => 1,
             Order::Pessimistic => 2,
         },
     }
 }
 
+// A truth as a byte.
+fn byte_of(yes: bool) -> u8
+    ensures { λ r. ⌜ r ≡ truth yes ⌝ }
+{
+    if yes { 1 } else { 0 }
+}
+
+// The truth that a byte says, if it is 0 or 1.
+fn truth_of(byte: u8) -> bool
+    ensures { λ r. ⌜ r ≡ yes byte ⌝ }
+{
+    byte == 1
+}
+
 // A shape as it goes out.
 fn shape_out(shape: Shape) -> CShape
     ensures { λ r. ⌜ r ≡ shapeOut shape ⌝ }
 {
-    let freelist = shape.freelist;
+    let policy = shape.policy;
     CShape {
         cap: shape.cap,
         reserved: shape.reserved,
         data_offset: shape.data_offset,
-        unify: shape.unify,
-        read_only: shape.read_only,
-        freelist: code_of(freelist),
+        unify: byte_of(shape.unify),
+        read_only: byte_of(shape.read_only),
+        policy: code_of(policy),
     }
 }
 
 // A shape that came over, with this data offset and this policy.
-fn shape_with(shape: CShape, data_offset: u32, freelist: Freelist) -> Shape
-    ensures { λ r. ⌜ r ≡ shapeWith shape «data_offset» freelist ⌝ }
+fn shape_with(shape: CShape, data_offset: u32, policy: Policy) -> Shape
+    ensures { λ r. ⌜ r ≡ shapeWith shape «data_offset» policy ⌝ }
 {
     Shape {
         cap: shape.cap,
         reserved: shape.reserved,
         data_offset,
-        unify: shape.unify,
-        read_only: shape.read_only,
-        freelist,
+        unify: truth_of(shape.unify),
+        read_only: truth_of(shape.read_only),
+        policy,
     }
 }
 
-// A shape as it comes in. One whose code names no policy gets the data offset 0, which none has.
+// The policy that a shape names, if its other two bytes are truths.
+fn named_by(shape: CShape) -> Named
+    ensures { λ r. ⌜ r ≡ namedBy shape ⌝ }
+{
+    if 1 < shape.unify {
+        return Named::Unknown;
+    }
+    if 1 < shape.read_only {
+        return Named::Unknown;
+    }
+    records::policy_of(shape.policy)
+}
+
+// A shape as it comes in. One that names no policy gets the data offset 0, which none has.
 fn shape_in(shape: CShape) -> Shape
     ensures { λ r. ⌜ r ≡ shapeIn shape ⌝ }
 {
-    let Policy::Known(freelist) = records::policy_of(shape.freelist) else {
-        return shape_with(shape, 0, Freelist::None);
+    let Named::Known(policy) = named_by(shape) else {
+        return shape_with(shape, 0, Policy::None);
     };
-    shape_with(shape, shape.data_offset, freelist)
+    shape_with(shape, shape.data_offset, policy)
 }
 
 // An answer of five numbers.
@@ -142,29 +182,22 @@ fn numbers(code: u32, first: u32, second: u32, third: u32, fourth: u32) -> CAnsw
     }
 }
 
-// A truth as a number.
-fn number(yes: bool) -> u32
-    ensures { λ r. ⌜ r ≡ truth yes ⌝ }
-{
-    if yes { 1 } else { 0 }
-}
-
 // What a call says, as five numbers.
 fn say(answer: Answer) -> CAnswer
     ensures { λ r. ⌜ r ≡ answerOf (said answer) ⌝ }
 {
     match answer {
         Answer::Granted(b) => numbers(
-            100,
+            GRANTED,
             b.memory_offset,
             b.memory_size,
             b.usable_offset,
             b.usable_size,
         ),
-        Answer::Nothing => numbers(101, 0, 0, 0, 0),
-        Answer::GivenBack(taken) => numbers(102, number(taken), 0, 0, 0),
-        Answer::Sum(n) => numbers(103, n, 0, 0, 0),
-        Answer::Done => numbers(104, 0, 0, 0, 0),
+        Answer::Nothing => numbers(NOTHING, 0, 0, 0, 0),
+        Answer::GivenBack(taken) => numbers(GIVEN_BACK, byte_of(taken) as u32, 0, 0, 0),
+        Answer::Sum(n) => numbers(SUM, n, 0, 0, 0),
+        Answer::Done => numbers(DONE, 0, 0, 0, 0),
         Answer::ReadOnly => numbers(1, 0, 0, 0, 0),
         Answer::Damaged => numbers(4, 0, 0, 0, 0),
         Answer::BadLayout => numbers(5, 0, 0, 0, 0),
@@ -197,10 +230,20 @@ fn unready(code: u32) -> CBegun
             cap: 0,
             reserved: 0,
             data_offset: 0,
-            unify: false,
-            read_only: false,
-            freelist: 0,
+            unify: 0,
+            read_only: 0,
+            policy: 0,
         },
+    }
+}
+
+// A setup whose `unify` or `read_only` is neither 0 nor 1: refused 3, but for a policy that is refused 2.
+fn misread(policy: u8) -> CBegun
+    ensures { λ r. ⌜ r ≡ unopened (policyOf policy) ⌝ }
+{
+    match records::policy_of(policy) {
+        Named::Known(_) => unready(3),
+        Named::Unknown => unready(2),
     }
 }
 
@@ -210,27 +253,33 @@ pub extern "C" fn arena_setup(
     header: &mut [u32; 6],
     buf: &[u8],
     reserved: u32,
-    unify: bool,
+    unify: u8,
     policy: u8,
-    min_segment_size: u32,
-    read_only: bool,
+    minimum_segment_size: u32,
+    read_only: u8,
 ) -> CBegun
     ensures { λ r.
         ⌜ opened r (now (header .exit))
-        ≡ opening (asked reserved unify policy «min_segment_size» «read_only») (length (now (buf .entry))) (now (header .entry)) ⌝ }
+        ≡ opening reserved unify policy «minimum_segment_size» «read_only» (length (now (buf .entry))) (now (header .entry)) ⌝ }
 {
+    if 1 < unify {
+        return misread(policy);
+    }
+    if 1 < read_only {
+        return misread(policy);
+    }
     let settings = Settings {
         reserved,
-        unify,
+        unify: truth_of(unify),
         policy,
-        min_segment_size,
-        read_only,
+        minimum_segment_size,
+        read_only: truth_of(read_only),
     };
     match records::setup(settings, buf) {
         Begun::Ready(arena) => {
             store(header, arena.header);
             CBegun {
-                code: 104,
+                code: DONE,
                 shape: shape_out(arena.shape),
             }
         }
@@ -322,19 +371,19 @@ pub extern "C" fn arena_discard_freelist(
     send(header, reply)
 }
 
-// The top moves: to x from the start, by d from where it is, to x below the end.
+// The top moves: to `by` from the start, by `by` from where it is, to `by` below the end.
 #[no_mangle]
 pub extern "C" fn arena_rewind_start(
     shape: CShape,
     header: &mut [u32; 6],
     buf: &[u8],
-    x: u32,
+    by: u32,
 ) -> CAnswer
     ensures { λ r.
         ⌜ crossed r (now (header .exit)) (now (buf .entry))
-        ≡ crossing shape (now (header .entry)) (now (buf .entry)) (λ s h l. rewinding s h l (Start x)) ⌝ }
+        ≡ crossing shape (now (header .entry)) (now (buf .entry)) (λ s h l. rewinding s h l (Start by)) ⌝ }
 {
-    let reply = arena::rewind(shape_in(shape), load(header), buf, Position::Start(x));
+    let reply = arena::rewind(shape_in(shape), load(header), buf, Position::Start(by));
     send(header, reply)
 }
 
@@ -343,13 +392,13 @@ pub extern "C" fn arena_rewind_current(
     shape: CShape,
     header: &mut [u32; 6],
     buf: &[u8],
-    d: i64,
+    by: i64,
 ) -> CAnswer
     ensures { λ r.
         ⌜ crossed r (now (header .exit)) (now (buf .entry))
-        ≡ crossing shape (now (header .entry)) (now (buf .entry)) (λ s h l. rewinding s h l (Current d)) ⌝ }
+        ≡ crossing shape (now (header .entry)) (now (buf .entry)) (λ s h l. rewinding s h l (Current by)) ⌝ }
 {
-    let reply = arena::rewind(shape_in(shape), load(header), buf, Position::Current(d));
+    let reply = arena::rewind(shape_in(shape), load(header), buf, Position::Current(by));
     send(header, reply)
 }
 
@@ -358,13 +407,13 @@ pub extern "C" fn arena_rewind_end(
     shape: CShape,
     header: &mut [u32; 6],
     buf: &[u8],
-    x: u32,
+    by: u32,
 ) -> CAnswer
     ensures { λ r.
         ⌜ crossed r (now (header .exit)) (now (buf .entry))
-        ≡ crossing shape (now (header .entry)) (now (buf .entry)) (λ s h l. rewinding s h l (End x)) ⌝ }
+        ≡ crossing shape (now (header .entry)) (now (buf .entry)) (λ s h l. rewinding s h l (End by)) ⌝ }
 {
-    let reply = arena::rewind(shape_in(shape), load(header), buf, Position::End(x));
+    let reply = arena::rewind(shape_in(shape), load(header), buf, Position::End(by));
     send(header, reply)
 }
 
@@ -413,7 +462,7 @@ pub extern "C" fn arena_remaining(shape: CShape, header: &[u32; 6]) -> u32
     ensures { λ r. ⌜ r ≡ shape .cap - headerOf (now (header .entry)) .allocated ⌝ }
 {
     records::remaining(
-        shape_with(shape, shape.data_offset, Freelist::None),
+        shape_with(shape, shape.data_offset, Policy::None),
         load(header),
     )
 }

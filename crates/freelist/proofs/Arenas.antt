@@ -14,8 +14,8 @@ use Rattle.words.specs.Word.{wordAt, sizeHalf, endMark}
 use Rattle.records.specs.Setup.{limit}
 use Rattle.records.specs.Head.{Head, headSound}
 use Rattle.records.specs.declared.Order.{Order}
-use Rattle.records.specs.declared.Freelist.{Freelist}
-use Rattle.records.specs.declared.Freelist.the-variants.{None, Ordered}
+use Rattle.records.specs.declared.Policy.{Policy}
+use Rattle.records.specs.declared.Policy.the-variants.{None, Ordered}
 use Rattle.records.specs.declared.Shape.{Shape}
 use Rattle.records.specs.declared.Header.{Header}
 use Rattle.records.proofs.Facts.{both, head-facts, facts-head}
@@ -29,37 +29,37 @@ use Rattle.freelist.proofs.Totals.{few, sizes-within}
 use Rattle.freelist.proofs.Checks.{checked-listed, listed-checked, listed-run}
 
 -- by a policy, the list from head has exactly these segments
-abbrev pub Frees : Freelist → List ℕ → ℕ → ℕ → ℕ → List Seg → Type 0
+abbrev pub Frees : Policy → List ℕ → ℕ → ℕ → ℕ → List Seg → Type 0
 Frees None l head start top segs = (head ≡ endMark) × (segs ≡ [])
 Frees (Ordered o) l head start top segs = Listed l head start top o segs
 
 module _ (l : List ℕ) (head start top : ℕ) where
-  list-frees : (f : Freelist) → length l ≤ limit → 1 ≤ start → start ≤ top → top ≤ length l → listSound f start top l head ≡ true → Frees f l head start top (freeFrom f start top l head)
+  list-frees : (f : Policy) → length l ≤ limit → 1 ≤ start → start ≤ top → top ≤ length l → listSound f start top l head ≡ true → Frees f l head start top (freeFrom f start top l head)
   list-frees None a b c d e = (eqb-true _ _ e, refl)
   list-frees (Ordered o) a b c d e = checked-listed l head start top o a b c d e
 
   module _ (segs : List Seg) where
-    frees-list : (f : Freelist) → Frees f l head start top segs → (listSound f start top l head ≡ true) × (freeFrom f start top l head ≡ segs)
+    frees-list : (f : Policy) → Frees f l head start top segs → (listSound f start top l head ≡ true) × (freeFrom f start top l head ≡ segs)
     frees-list None k = (eq-eqb _ _ (k .0), sym (k .1))
     frees-list (Ordered o) k = (listed-checked l head start top o segs k, listed-run l head start top o segs k)
 
-    pub frees-run : (f : Freelist) → Frees f l head start top segs → Run (wordAt l) head segs endMark
+    pub frees-run : (f : Policy) → Frees f l head start top segs → Run (wordAt l) head segs endMark
     frees-run None k = rw (k .1) (k .0)
     frees-run (Ordered o) k = k .run
 
-    pub frees-ranged : (f : Freelist) → Frees f l head start top segs → All (InRange start top) segs
+    pub frees-ranged : (f : Policy) → Frees f l head start top segs → All (InRange start top) segs
     frees-ranged None k = rw (k .1) tt
     frees-ranged (Ordered o) k = k .good .ranged
 
-    frees-apart : (f : Freelist) → Frees f l head start top segs → Pairwise Apart segs
+    frees-apart : (f : Policy) → Frees f l head start top segs → Pairwise Apart segs
     frees-apart None k = rw (k .1) tt
     frees-apart (Ordered o) k = k .good .apart
 
-    frees-ordered : (f : Freelist) → Frees f l head start top segs → InOrder f segs
+    frees-ordered : (f : Policy) → Frees f l head start top segs → InOrder f segs
     frees-ordered None k = k .1
     frees-ordered (Ordered o) k = k .good .sorted
 
-    pub make-frees : (f : Freelist) → length l ≤ limit → 1 ≤ start → start ≤ top → top ≤ length l → Run (wordAt l) head segs endMark → All (InRange start top) segs → Pairwise Apart segs → InOrder f segs → Frees f l head start top segs
+    pub make-frees : (f : Policy) → length l ≤ limit → 1 ≤ start → start ≤ top → top ≤ length l → Run (wordAt l) head segs endMark → All (InRange start top) segs → Pairwise Apart segs → InOrder f segs → Frees f l head start top segs
     make-frees None a b c d r g p i = (rw i at r, i)
     make-frees (Ordered o) a b c d r g p i =
         record { limited = a; starts = b; ordered = c; inside = d; run = r; good = record { ranged = g; apart = p; sorted = i } }
@@ -69,18 +69,18 @@ module _ (s : Shape) (h : Header) (l : List ℕ) where
   head-numbers k =
       (omega (arith, k .whole, k .within), rw (k .start) (data-past (s .reserved) (s .unify)), k .above, omega (arith, k .whole, k .below))
 
-  pub frees-sound : Head s h (length l) → sizeHalf (h .sentinel) ≡ endMark → (segs : List Seg) → Frees (s .freelist) l (firstOf h) (s .«data_offset») (h .allocated) segs
+  pub frees-sound : Head s h (length l) → sizeHalf (h .sentinel) ≡ endMark → (segs : List Seg) → Frees (s .policy) l (firstOf h) (s .«data_offset») (h .allocated) segs
       → (sound s h l ≡ true) × (free s h l ≡ segs)
   unfolding sound free
   frees-sound k m segs f =
-      let r = frees-list l (firstOf h) (s .«data_offset») (h .allocated) segs (s .freelist) f in
+      let r = frees-list l (firstOf h) (s .«data_offset») (h .allocated) segs (s .policy) f in
       (rw (facts-head s h (length l) k, eq-eqb (sizeHalf (h .sentinel)) endMark m) (r .0), r .1)
 
   module _ (yes : sound s h l ≡ true) where
-    tests : (headSound s h (length l) ≡ true) × (eqb (sizeHalf (h .sentinel)) endMark ≡ true) × (listSound (s .freelist) (s .«data_offset») (h .allocated) l (firstOf h) ≡ true)
+    tests : (headSound s h (length l) ≡ true) × (eqb (sizeHalf (h .sentinel)) endMark ≡ true) × (listSound (s .policy) (s .«data_offset») (h .allocated) l (firstOf h) ≡ true)
     unfolding sound
     tests =
-        let a = both (headSound s h (length l) && eqb (sizeHalf (h .sentinel)) endMark) (listSound (s .freelist) (s .«data_offset») (h .allocated) l (firstOf h)) yes in
+        let a = both (headSound s h (length l) && eqb (sizeHalf (h .sentinel)) endMark) (listSound (s .policy) (s .«data_offset») (h .allocated) l (firstOf h)) yes in
         let b = both (headSound s h (length l)) (eqb (sizeHalf (h .sentinel)) endMark) (a .0) in
         (b .0, b .1, a .1)
 
@@ -90,25 +90,25 @@ module _ (s : Shape) (h : Header) (l : List ℕ) where
     pub sound-marked : sizeHalf (h .sentinel) ≡ endMark
     sound-marked = eqb-true _ _ (tests .1)
 
-    pub sound-frees : Frees (s .freelist) l (firstOf h) (s .«data_offset») (h .allocated) (free s h l)
+    pub sound-frees : Frees (s .policy) l (firstOf h) (s .«data_offset») (h .allocated) (free s h l)
     unfolding free
     sound-frees =
         let n = head-numbers sound-head in
-        list-frees l (firstOf h) (s .«data_offset») (h .allocated) (s .freelist) (n .0) (n .1) (n .2) (n .3) (tests .2)
+        list-frees l (firstOf h) (s .«data_offset») (h .allocated) (s .policy) (n .0) (n .1) (n .2) (n .3) (tests .2)
 
     -- under an ordered policy: a list of the order
-    pub sound-listed : (o : Order) → s .freelist ≡ Ordered o → Listed l (firstOf h) (s .«data_offset») (h .allocated) o (free s h l)
-    sound-listed o e = subst (λ (f : Freelist). Frees f l (firstOf h) (s .«data_offset») (h .allocated) (free s h l)) e sound-frees
+    pub sound-listed : (o : Order) → s .policy ≡ Ordered o → Listed l (firstOf h) (s .«data_offset») (h .allocated) o (free s h l)
+    sound-listed o e = subst (λ (f : Policy). Frees f l (firstOf h) (s .«data_offset») (h .allocated) (free s h l)) e sound-frees
 
     -- for every policy: the walk and the segments
     pub sound-run : Run (wordAt l) (firstOf h) (free s h l) endMark
-    sound-run = frees-run l (firstOf h) (s .«data_offset») (h .allocated) (free s h l) (s .freelist) sound-frees
+    sound-run = frees-run l (firstOf h) (s .«data_offset») (h .allocated) (free s h l) (s .policy) sound-frees
 
     pub sound-ranged : All (InRange (s .«data_offset») (h .allocated)) (free s h l)
-    sound-ranged = frees-ranged l (firstOf h) (s .«data_offset») (h .allocated) (free s h l) (s .freelist) sound-frees
+    sound-ranged = frees-ranged l (firstOf h) (s .«data_offset») (h .allocated) (free s h l) (s .policy) sound-frees
 
     pub sound-apart : Pairwise Apart (free s h l)
-    sound-apart = frees-apart l (firstOf h) (s .«data_offset») (h .allocated) (free s h l) (s .freelist) sound-frees
+    sound-apart = frees-apart l (firstOf h) (s .«data_offset») (h .allocated) (free s h l) (s .policy) sound-frees
 
     pub sound-below : All (EndsBy (h .allocated)) (free s h l)
     sound-below = all-map (InRange (s .«data_offset») (h .allocated)) (EndsBy (h .allocated)) (λ t r. r .below) (free s h l) sound-ranged
@@ -135,7 +135,7 @@ module _ (s : Shape) (h : Header) (l : List ℕ) where
   sentence-free k =
       let n = head-numbers s h l (k .head) in
       frees-sound s h l (k .head) (k .marked) (k .segs)
-      (make-frees l (firstOf h) (s .«data_offset») (h .allocated) (k .segs) (s .freelist) (n .0) (n .1) (n .2) (n .3) (k .reaches) (k .each)
+      (make-frees l (firstOf h) (s .«data_offset») (h .allocated) (k .segs) (s .policy) (n .0) (n .1) (n .2) (n .3) (k .reaches) (k .each)
       (pairs-map Disjoint Apart (InRange (s .«data_offset») (h .allocated)) (λ a b p q. bytes-apart a b) (k .segs) (k .each) (k .apart)) (k .ordered))
 
   sound-sentence : sound s h l ≡ true → Sound s h l
@@ -147,7 +147,7 @@ module _ (s : Shape) (h : Header) (l : List ℕ) where
         reaches = sound-run s h l e;
         each = sound-ranged s h l e;
         apart = pairs-map Apart Disjoint (InRange (s .«data_offset») (h .allocated)) (λ a b p q. apart-bytes a b) (free s h l) (sound-ranged s h l e) (sound-apart s h l e);
-        ordered = frees-ordered l (firstOf h) (s .«data_offset») (h .allocated) (free s h l) (s .freelist) (sound-frees s h l e);
+        ordered = frees-ordered l (firstOf h) (s .«data_offset») (h .allocated) (free s h l) (s .policy) (sound-frees s h l e);
       }
 
   -- the test says yes exactly for it

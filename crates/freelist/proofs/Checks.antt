@@ -11,17 +11,17 @@ use lib.Dec.{eqb}
 use borrow.Author.Tests.{eqb-true, eqb-false, eq-eqb, ne-eqb, leb-true, le-leb, not-true}
 use lib.ListN.{length}
 use Rattle.words.specs.Word.{wordAt, endMark}
-use Rattle.records.specs.Pick.{pick}
+use Rattle.words.specs.Pick.{pick}
 use Rattle.records.specs.Setup.{limit}
 use Rattle.records.specs.declared.Order.{Order}
 use Rattle.records.specs.declared.Order.the-variants.{Optimistic, Pessimistic}
 use Rattle.records.proofs.Facts.{both, fails}
 use Rattle.freelist.specs.Segs.{Seg, Run, All, Pairwise, Apart, InRange, EndsBy, Leads, Good, Listed, segAt, nextAt, endOf}
-use Rattle.freelist.specs.Check.{after, passed, kept, inRange, follows, mayFollow, goodRun, soundb}
+use Rattle.freelist.specs.Check.{followed, passed, kept, inRange, follows, mayFollow, goodRun, soundb}
 use Rattle.freelist.specs.Split.{mayCome, rangedRun}
 use Rattle.freelist.proofs.Listing.{all-map, all-append, all-split, pairs-snoc, pairs-at}
 use Rattle.freelist.proofs.Meets.{apart-all, meets-none}
-use Rattle.freelist.proofs.Runs.{run-after, run-passed}
+use Rattle.freelist.proofs.Runs.{run-followed, run-passed}
 use Rattle.freelist.proofs.Totals.{few}
 
 -- each of these passed the test, told what came before
@@ -32,7 +32,7 @@ Steps ok seen (s ∷ ss) = (ok seen s ≡ true) × Steps ok (seen ++ s ∷ []) s
 module _ (w : ℕ → ℕ) (ok : List Seg → Seg → Bool) where
   -- what `kept` keeps is a run whose nodes pass the test
   abbrev Kept : List Seg → ℕ → List Seg → Type 0
-  Kept seen p ss = Run w p ss (after w (length ss) p) × Steps ok seen ss
+  Kept seen p ss = Run w p ss (followed w (length ss) p) × Steps ok seen ss
 
   keep : (x y : Bool) (p : ℕ) (seen rest : List Seg) → eqb p endMark ≡ x → ok seen (segAt w p) ≡ y → Kept (seen ++ segAt w p ∷ []) (nextAt w p) rest
       → Kept seen p (pick (not x && y) (segAt w p ∷ rest) [])
@@ -161,7 +161,7 @@ module _ (start top : ℕ) (o : Order) where
 
 module _ (l : List ℕ) (head start top : ℕ) (o : Order) where
   -- the longest good run: a run, and good
-  pub good-is-run : Run (wordAt l) head (goodRun l head start top o) (after (wordAt l) (length (goodRun l head start top o)) head)
+  pub good-is-run : Run (wordAt l) head (goodRun l head start top o) (followed (wordAt l) (length (goodRun l head start top o)) head)
   unfolding goodRun
   good-is-run = kept-is (wordAt l) (mayFollow start top o) (length l / 16) [] head .0
 
@@ -170,7 +170,7 @@ module _ (l : List ℕ) (head start top : ℕ) (o : Order) where
   good-good = steps-good start top o [] _ (good-nil start top o) (kept-is (wordAt l) (mayFollow start top o) (length l / 16) [] head .1)
 
   -- the longest run in range and in order
-  pub ranged-is-run : Run (wordAt l) head (rangedRun l head start top o) (after (wordAt l) (length (rangedRun l head start top o)) head)
+  pub ranged-is-run : Run (wordAt l) head (rangedRun l head start top o) (followed (wordAt l) (length (rangedRun l head start top o)) head)
   unfolding rangedRun
   ranged-is-run = kept-is (wordAt l) (mayCome start top o) (length l / 16) [] head .0
 
@@ -221,14 +221,14 @@ module _ (l : List ℕ) (head start top : ℕ) (o : Order) where
     pub listed-checked : soundb l head start top o ≡ true
     unfolding soundb
     listed-checked =
-        eq-eqb _ _ (ap (λ (ss : List Seg). after (wordAt l) (length ss) head) listed-run ∙ run-after (wordAt l) head endMark segs (s .run) (length segs) refl)
+        eq-eqb _ _ (ap (λ (ss : List Seg). followed (wordAt l) (length ss) head) listed-run ∙ run-followed (wordAt l) head endMark segs (s .run) (length segs) refl)
 
     -- a list by the number of its nodes
     pub listed-passed : (n : ℕ) → n ≡ length segs → passed (wordAt l) n head ≡ segs
     listed-passed = run-passed (wordAt l) head endMark segs (s .run)
 
-    pub listed-after : (n : ℕ) → n ≡ length segs → after (wordAt l) n head ≡ endMark
-    listed-after = run-after (wordAt l) head endMark segs (s .run)
+    pub listed-followed : (n : ℕ) → n ≡ length segs → followed (wordAt l) n head ≡ endMark
+    listed-followed = run-followed (wordAt l) head endMark segs (s .run)
 
     pub listed-ends : All (EndsBy (length l)) segs
     listed-ends = all-map (InRange start top) (EndsBy (length l)) (λ t r. omega (arith, s .inside)) segs (s .good .ranged)

@@ -14,13 +14,13 @@ use Rattle.records.proofs.Facts.{fails}
 use Rattle.freelist.specs.Segs.{Seg, All, Pairwise, Apart, InRange, endOf}
 use Rattle.freelist.specs.Check.{passed}
 use Rattle.freelist.specs.Split.{apartb}
-use Rattle.freelist.specs.Marks.{Holds, Free, markAt, Unset, Marked, Tells}
+use Rattle.freelist.specs.Marks.{Touches, Free, markAt, Unset, Marked, Tells}
 use Rattle.freelist.proofs.Listing.{all-map, all-both, pairs-map}
 use Rattle.freelist.proofs.Aparts.{tested-apart, apart-tested}
 
 -- the cell base has the first mark: those of the cells of s are not set
 abbrev pub Blank : ℕ → List ℕ → Seg → Type 0
-Blank base marks s = (c : ℕ) → base ≤ c → c < base + length marks * 64 → Holds s c → markAt marks (c - base) ≡ 0
+Blank base marks s = (c : ℕ) → base ≤ c → c < base + length marks * 64 → Touches s c → markAt marks (c - base) ≡ 0
 
 -- no two of these segments share a cell of those that have a mark, and none has a cell whose mark is set
 abbrev pub Claimable : ℕ → List ℕ → List Seg → Type 0
@@ -54,7 +54,7 @@ module _ (base : ℕ) (were : List ℕ) (s : Seg) (a b : ℕ) (from : a ≡ min 
       after-blank : (t : Seg) → Blank base are t → Blank base were t × Free base (base + length were * 64) s t
       after-blank t f = (λ c l h k. sym (m .others (c - base) (λ x y. clash c l h (omega arith, omega arith) k)) ∙ f c l (omega arith) k, clash)
         where
-          clash : (c : ℕ) → base ≤ c → c < base + length were * 64 → Holds s c → Holds t c → ⊥
+          clash : (c : ℕ) → base ≤ c → c < base + length were * 64 → Touches s c → Touches t c → ⊥
           clash c l h j k =
               let e : _≡_ {A = ℕ} 1 0 = sym (m .own (c - base) (omega arith) (omega arith)) ∙ f c l (omega arith) k in
               omega arith
@@ -111,7 +111,7 @@ free-join lo mid hi (s ∷ ss) f g =
     join : (t : Seg) → Free lo mid s t → Free mid hi s t → Free lo hi s t
     join t x y c l h = go (decLe mid c)
       where
-        go : Dec (mid ≤ c) → Holds s c → Holds t c → ⊥
+        go : Dec (mid ≤ c) → Touches s c → Touches t c → ⊥
         go (yes k) = y c k h
         go (no k) = x c l (omega arith)
 

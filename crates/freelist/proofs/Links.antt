@@ -209,6 +209,6 @@ pub inserted : (l l₁ l₂ : List ℕ) (segs : List Seg) (head r : ℕ) (o : Or
     → Inserted l segs head o q l₂ r
 unfolding insertBytes insertHead
 inserted l l₁ l₂ segs head r o q prev next index word k g e f =
-    let a : prev ≡ lastOf (take (place (leads o q) segs) segs) = rw (k .at) at (k .stands .after) in
-    let b : next ≡ startOf (drop (place (leads o q) segs) segs) = rw (k .at) at (k .stands .before) in
+    let a : prev ≡ lastOf (take (place (leads o q) segs) segs) = rw (k .at) at (k .stands .behind) in
+    let b : next ≡ startOf (drop (place (leads o q) segs) segs) = rw (k .at) at (k .stands .ahead) in
     record { bytes = rw (← a, ← b, ← g, ← e) (f .0); starts = rw (← a) (f .1) }

@@ -10,7 +10,7 @@ use lib.ListN.{length}
 use Rattle.words.specs.Word.{endMark}
 use Rattle.records.specs.declared.Order.{Order}
 use Rattle.freelist.specs.Segs.{Seg, Run, All, segAt, nextAt, leads}
-use Rattle.freelist.specs.Check.{after, passed, follows}
+use Rattle.freelist.specs.Check.{followed, passed, follows}
 use Rattle.freelist.specs.Place.{any}
 use Rattle.freelist.specs.Link.{startOf, lastOf, sizes}
 
@@ -26,22 +26,22 @@ module _ (w : ℕ → ℕ) where
       (r .0, (h .0, h .1, r .1), r .2)
 
   -- a run is the nodes that a walk of as many steps passes, and ends where that walk stands
-  pub run-after : (p q : ℕ) (a : List Seg) → Run w p a q → (n : ℕ) → n ≡ length a → after w n p ≡ q
-  run-after p q [] h n e = rw e h
-  run-after p q (s ∷ a) h n e = rw e (run-after (nextAt w p) q a (h .2) (length a) refl)
+  pub run-followed : (p q : ℕ) (a : List Seg) → Run w p a q → (n : ℕ) → n ≡ length a → followed w n p ≡ q
+  run-followed p q [] h n e = rw e h
+  run-followed p q (s ∷ a) h n e = rw e (run-followed (nextAt w p) q a (h .2) (length a) refl)
 
   pub run-passed : (p q : ℕ) (a : List Seg) → Run w p a q → (n : ℕ) → n ≡ length a → passed w n p ≡ a
   run-passed p q [] h n e = rw e refl
   run-passed p q (s ∷ a) h n e = rw (e, h .1, run-passed (nextAt w p) q a (h .2) (length a) refl) refl
 
   -- a walk of one step more, at its end and at its start
-  pub passed-snoc : (n p : ℕ) → passed w (suc n) p ≡ passed w n p ++ segAt w (after w n p) ∷ []
+  pub passed-snoc : (n p : ℕ) → passed w (suc n) p ≡ passed w n p ++ segAt w (followed w n p) ∷ []
   passed-snoc zero p = refl
   passed-snoc (suc n) p = ap (λ (l : List Seg). segAt w p ∷ l) (passed-snoc n (nextAt w p))
 
-  pub after-suc : (n p : ℕ) → after w (suc n) p ≡ nextAt w (after w n p)
-  after-suc zero p = refl
-  after-suc (suc n) p = after-suc n (nextAt w p)
+  pub followed-suc : (n p : ℕ) → followed w (suc n) p ≡ nextAt w (followed w n p)
+  followed-suc zero p = refl
+  followed-suc (suc n) p = followed-suc n (nextAt w p)
 
   pub passed-pop : (n p : ℕ) → 0 < n → passed w n p ≡ segAt w p ∷ passed w (n - 1) (nextAt w p)
   passed-pop n p h = let e : n ≡ suc (n - 1) = omega arith in ap (λ (k : ℕ). passed w k p) e
@@ -49,7 +49,7 @@ module _ (w : ℕ → ℕ) where
   pub all-pop : (P : Seg → Type 0) (n p : ℕ) → 0 < n → All P (passed w n p) → P (segAt w p) × All P (passed w (n - 1) (nextAt w p))
   all-pop P n p h a = rw (passed-pop n p h) at a
 
-  pub passed-split : (m n p : ℕ) → passed w (m + n) p ≡ passed w m p ++ passed w n (after w m p)
+  pub passed-split : (m n p : ℕ) → passed w (m + n) p ≡ passed w m p ++ passed w n (followed w m p)
   passed-split zero n p = rw zero-add refl
   passed-split (suc m) n p = let e : suc m + n ≡ suc (m + n) = omega arith in rw e (ap (λ (l : List Seg). segAt w p ∷ l) (passed-split m n (nextAt w p)))
 
@@ -75,15 +75,15 @@ module _ (w : ℕ → ℕ) where
   sizes-left n p h = let e : n ≡ 0 = omega arith in rw e refl
 
   -- the last of the nodes that were passed
-  pub last-passed : (n p : ℕ) → lastOf (passed w (suc n) p) ≡ after w n p
+  pub last-passed : (n p : ℕ) → lastOf (passed w (suc n) p) ≡ followed w n p
   last-passed zero p = refl
   last-passed (suc n) p = last-passed n (nextAt w p)
 
-  last-follows : (o : Order) (n p : ℕ) (t : Seg) → follows o (passed w (suc n) p) t ≡ leads o (segAt w (after w n p)) t
+  last-follows : (o : Order) (n p : ℕ) (t : Seg) → follows o (passed w (suc n) p) t ≡ leads o (segAt w (followed w n p)) t
   last-follows o zero p t = refl
   last-follows o (suc n) p t = last-follows o n (nextAt w p) t
 
-  pub passed-follows : (o : Order) (n p : ℕ) (t : Seg) → 0 < n → follows o (passed w n p) t ≡ leads o (segAt w (after w (n - 1) p)) t
+  pub passed-follows : (o : Order) (n p : ℕ) (t : Seg) → 0 < n → follows o (passed w n p) t ≡ leads o (segAt w (followed w (n - 1) p)) t
   passed-follows o n p t h =
       let e : n ≡ suc (n - 1) = omega arith in
       ap (λ (k : ℕ). follows o (passed w k p) t) e ∙ last-follows o (n - 1) p t

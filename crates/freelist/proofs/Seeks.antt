@@ -12,25 +12,25 @@ use lib.ListN.{length, take, drop, getD, length-drop}
 use lib.Seq.{take-at, drop-at}
 use Rattle.words.specs.Word.{wordAt, endMark}
 use Rattle.freelist.specs.Segs.{Seg, Run, All, EndsBy, segAt, nextAt}
-use Rattle.freelist.specs.Check.{after, passed}
+use Rattle.freelist.specs.Check.{followed, passed}
 use Rattle.freelist.specs.Place.{place}
 use Rattle.freelist.specs.Link.{startOf, lastOf, linkBytes, linkHead, removeBytes, removeHead, Stands, Spotted, Removed}
 use Rattle.freelist.proofs.Listing.{all-append, all-sides}
 use Rattle.freelist.proofs.Links.{last-in, start-small}
 use Rattle.freelist.proofs.Places.{place-past}
-use Rattle.freelist.proofs.Runs.{passed-pop, passed-snoc, passed-split, after-suc, last-passed, length-passed, all-pop, run-start}
+use Rattle.freelist.proofs.Runs.{passed-pop, passed-snoc, passed-split, followed-suc, last-passed, length-passed, all-pop, run-start}
 
 -- the place between a part that fails and a part whose first passes
 spotted : (f : Seg → Bool) (a b : List Seg) (n : ℕ) → length a ≡ n → All (λ s. f s ≡ false) a → place f b ≡ 0 → Spotted (a ++ b) f (lastOf a) (startOf b) n
 spotted f a b n h e z =
     record {
       at = sym (place-past f a b e ∙ rw (z, h) (add-zero n));
-      stands = record { after = sym (ap lastOf (take-at a b n h)); before = sym (ap startOf (drop-at a b n h)) };
+      stands = record { behind = sym (ap lastOf (take-at a b n h)); ahead = sym (ap startOf (drop-at a b n h)) };
     }
 
 pub record Seeking (w : ℕ → ℕ) (f : Seg → Bool) (n head count left prev p index : ℕ) : Type 0 where
   pub counted : count ≡ index + left
-  pub stands : p ≡ after w index head
+  pub stands : p ≡ followed w index head
   pub latest : prev ≡ lastOf (passed w index head)
   pub ends : All (EndsBy n) (passed w left p)
   pub fails : All (λ s. f s ≡ false) (passed w index head)
@@ -49,7 +49,7 @@ module _ (w : ℕ → ℕ) (f : Seg → Bool) (n head count : ℕ) where
         rw (parts, k .latest, b)
         (spotted f (passed w index head) (segAt w p ∷ passed w (left - 1) (nextAt w p)) index (length-passed w index head) (k .fails) (rw e refl))
 
-    pub seek-none : left ≤ 0 → after w count head ≡ endMark → Spotted (passed w count head) f prev p index
+    pub seek-none : left ≤ 0 → followed w count head ≡ endMark → Spotted (passed w count head) f prev p index
     seek-none h e =
         let z : left ≡ 0 = omega arith in
         let i : count ≡ index = omega (arith, k .counted) in
@@ -61,7 +61,7 @@ module _ (w : ℕ → ℕ) (f : Seg → Bool) (n head count : ℕ) where
         let s : passed w (index + 1) head ≡ passed w index head ++ segAt w p ∷ [] = rw (add-one, passed-snoc, ← k .stands) refl in
         record {
           counted = omega (arith, k .counted);
-          stands = rw (add-one, after-suc, ← k .stands) refl;
+          stands = rw (add-one, followed-suc, ← k .stands) refl;
           latest = rw (add-one, last-passed) (k .stands);
           ends = all-pop w (EndsBy n) left p h (k .ends) .1;
           fails = rw s (all-append (λ s. f s ≡ false) (passed w index head) (segAt w p ∷ []) (k .fails) (e, tt));
@@ -77,13 +77,13 @@ module _ (n : ℕ) (segs : List Seg) (index prev next : ℕ) (k : Stands segs in
   sides = all-sides (EndsBy n) index segs e
 
   pub prev-in : prev ≢ endMark → prev + 8 ≤ n
-  prev-in h = rw (k .after) (last-or-end n (take index segs) (sides .0) (rw (k .after) at h))
+  prev-in h = rw (k .behind) (last-or-end n (take index segs) (sides .0) (rw (k .behind) at h))
 
   pub next-small : n < 4294967295 → next < 4294967296
-  next-small h = rw (k .before) (start-small n (drop index segs) h (sides .1))
+  next-small h = rw (k .ahead) (start-small n (drop index segs) h (sides .1))
 
   pub next-in : index < length segs → next + 8 ≤ n
-  next-in h = rw (k .before) (start-in (drop index segs) (simp length-drop (omega arith)) (sides .1))
+  next-in h = rw (k .ahead) (start-in (drop index segs) (simp length-drop (omega arith)) (sides .1))
     where
       start-in : (ss : List Seg) → 0 < length ss → All (EndsBy n) ss → startOf ss + 8 ≤ n
       start-in [] h a = absurd (omega arith)
@@ -100,8 +100,8 @@ pub removed : (l l₁ : List ℕ) (segs : List Seg) (head r index prev at next :
     → index < length segs → next ≡ nextAt (wordAt l) at → (l₁ ≡ linkBytes l prev next) × (r ≡ linkHead head prev next) → Removed l segs head index l₁ r
 unfolding removeBytes removeHead
 removed l l₁ segs head r index prev at next k run h e g =
-    let b : next ≡ startOf (drop (suc index) segs) = e ∙ rw (k .before) (run-at (wordAt l) head index segs run h) in
-    record { bytes = rw (← k .after, ← b) (g .0); starts = rw (← k .after, ← b) (g .1) }
+    let b : next ≡ startOf (drop (suc index) segs) = e ∙ rw (k .ahead) (run-at (wordAt l) head index segs run h) in
+    record { bytes = rw (← k .behind, ← b) (g .0); starts = rw (← k .behind, ← b) (g .1) }
 
 -- the node at a place is the segment there
 pub run-node : (w : ℕ → ℕ) (p m index : ℕ) (segs : List Seg) (d : Seg) → Run w p segs m → index < length segs → getD segs index d ≡ segAt w (startOf (drop index segs))

@@ -12,12 +12,12 @@ use borrow.Author.Tests.{eq-eqb, ne-eqb}
 use lib.Dec.{eqb}
 use lib.ListN.{length}
 use Rattle.words.specs.Word.{wordAt, endMark}
-use Rattle.records.specs.Pick.{pick}
+use Rattle.words.specs.Pick.{pick}
 use Rattle.freelist.specs.Segs.{Seg, segAt, nextAt, leads}
-use Rattle.freelist.specs.Check.{after, passed, kept, inRange, follows, Walked}
+use Rattle.freelist.specs.Check.{followed, passed, kept, inRange, follows, Walked}
 use Rattle.freelist.specs.Split.{mayCome, rangedRun}
 use Rattle.records.specs.declared.Order.{Order}
-use Rattle.freelist.proofs.Runs.{passed-snoc, after-suc, length-passed, passed-follows}
+use Rattle.freelist.proofs.Runs.{passed-snoc, followed-suc, length-passed, passed-follows}
 use Rattle.freelist.proofs.Checks.{come-no-range, come-no-order, come-yes}
 
 module _ (w : ℕ → ℕ) (ok : List Seg → Seg → Bool) (seen : List Seg) (p : ℕ) where
@@ -44,8 +44,8 @@ module _ (w : ℕ → ℕ) (ok : List Seg → Seg → Bool) (seen : List Seg) (p
 pub record Walking (l : List ℕ) (head start top : ℕ) (o : Order) (limit count prev last p : ℕ) : Type 0 where
   pub limited : limit ≡ length l / 16
   pub within : count ≤ limit
-  pub stands : p ≡ after (wordAt l) count head
-  pub latest : 0 < count → _≡_ {A = Seg} (record { offset = prev; size = last }) (segAt (wordAt l) (after (wordAt l) (count - 1) head))
+  pub stands : p ≡ followed (wordAt l) count head
+  pub latest : 0 < count → _≡_ {A = Seg} (record { offset = prev; size = last }) (segAt (wordAt l) (followed (wordAt l) (count - 1) head))
   pub keeps : rangedRun l head start top o ≡ passed (wordAt l) count head ++ kept (limit - count) (wordAt l) (mayCome start top o) (passed (wordAt l) count head) p
 
 module _ (l : List ℕ) (head start top : ℕ) (o : Order) where
@@ -77,7 +77,7 @@ module _ (l : List ℕ) (head start top : ℕ) (o : Order) where
           go : Dec (1 ≤ count) → follows o (passed (wordAt l) count head) (segAt (wordAt l) p) ≡ r
           go (yes h) =
               passed-follows (wordAt l) o count head (segAt (wordAt l) p) h
-              ∙ sym (later h ∙ ap (λ (t : Seg). leads o t (record { offset = p; size = size })) (k .latest h) ∙ ap (λ (n : ℕ). leads o (segAt (wordAt l) (after (wordAt l) (count - 1) head)) (record { offset = p; size = n })) sized)
+              ∙ sym (later h ∙ ap (λ (t : Seg). leads o t (record { offset = p; size = size })) (k .latest h) ∙ ap (λ (n : ℕ). leads o (segAt (wordAt l) (followed (wordAt l) (count - 1) head)) (record { offset = p; size = n })) sized)
           go (no h) = let e : count ≡ 0 = omega arith in rw e (sym (first e))
 
       pub walk-no-order : count < limit → p ≢ endMark → inRange start top (segAt (wordAt l) p) ≡ true → r ≡ false → Walked l head (rangedRun l head start top o) count p
@@ -87,7 +87,7 @@ module _ (l : List ℕ) (head start top : ℕ) (o : Order) where
           → Walking l head start top o limit (count + 1) p size (nextAt (wordAt l) p)
       walk-goes h e f g =
           let s : passed (wordAt l) (count + 1) head ≡ passed (wordAt l) count head ++ segAt (wordAt l) p ∷ [] = rw (add-one, passed-snoc, ← k .stands) refl in
-          let a : after (wordAt l) (count + 1) head ≡ nextAt (wordAt l) p = rw (add-one, after-suc, ← k .stands) refl in
+          let a : followed (wordAt l) (count + 1) head ≡ nextAt (wordAt l) p = rw (add-one, followed-suc, ← k .stands) refl in
           let m : count + 1 - 1 ≡ count = omega arith in
           let n : limit - (count + 1) ≡ limit - count - 1 = omega arith in
           let y : mayCome start top o (passed (wordAt l) count head) (segAt (wordAt l) p) ≡ true = come-yes _ _ _ _ _ f (order ∙ g) in

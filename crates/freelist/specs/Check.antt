@@ -7,15 +7,15 @@ use Prim.Native.Nat.{ℕ, zero, suc, _/_, _%_, min, max}
 use lib.Dec.{leb, ltb, eqb}
 use lib.ListN.{length}
 use Rattle.words.specs.Word.{wordAt, endMark}
-use Rattle.records.specs.Pick.{pick}
+use Rattle.words.specs.Pick.{pick}
 use Rattle.records.specs.declared.Order.{Order}
 use Rattle.freelist.specs.Segs.{Seg, endOf, segAt, nextAt, leads}
 use Rattle.freelist.specs.Place.{any}
 
 -- following next n times from p: where the walk stands then, and the segments that it passed
-abbrev pub after : (ℕ → ℕ) → ℕ → ℕ → ℕ
-after w zero p = p
-after w (suc n) p = after w n (nextAt w p)
+abbrev pub followed : (ℕ → ℕ) → ℕ → ℕ → ℕ
+followed w zero p = p
+followed w (suc n) p = followed w n (nextAt w p)
 
 abbrev pub passed : (ℕ → ℕ) → ℕ → ℕ → List Seg
 passed w zero p = []
@@ -24,7 +24,7 @@ passed w (suc n) p = segAt w p ∷ passed w n (nextAt w p)
 -- what a walk from head tells: it passed these segments, so many, and stands at stop
 pub record Walked (l : List ℕ) (head : ℕ) (segs : List Seg) (count stop : ℕ) : Type 0 where
   pub counted : count ≡ length segs
-  pub stops : stop ≡ after (wordAt l) count head
+  pub stops : stop ≡ followed (wordAt l) count head
 
 -- the bytes from a up to b and those from c up to d have one in common
 abbrev pub shares : ℕ → ℕ → ℕ → ℕ → Bool
@@ -65,4 +65,4 @@ goodRun l head start top o = kept (length l / 16) (wordAt l) (mayFollow start to
 
 -- 01: following next reaches the end mark
 unfoldable pub soundb : List ℕ → ℕ → ℕ → ℕ → Order → Bool
-soundb l head start top o = eqb (after (wordAt l) (length (goodRun l head start top o)) head) endMark
+soundb l head start top o = eqb (followed (wordAt l) (length (goodRun l head start top o)) head) endMark

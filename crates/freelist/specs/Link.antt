@@ -7,7 +7,7 @@ use Prim.Native.Nat.{ℕ, suc, _+_}
 use lib.Dec.{leb, ltb, eqb}
 use lib.ListN.{take, drop}
 use Rattle.words.specs.Word.{wordAt, putWord, nodeWord, sizeHalf, endMark}
-use Rattle.records.specs.Pick.{pick}
+use Rattle.words.specs.Pick.{pick}
 use Rattle.records.specs.declared.Order.{Order}
 use Rattle.freelist.specs.Segs.{Seg, endOf, leads}
 use Rattle.freelist.specs.Check.{shares}
@@ -63,8 +63,8 @@ removeHead head segs k = linkHead head (lastOf (take k segs)) (startOf (drop (su
 
 -- a place with so many segments before it: the nodes on both sides
 pub record Stands (segs : List Seg) (index prev next : ℕ) : Type 0 where
-  pub after : prev ≡ lastOf (take index segs)
-  pub before : next ≡ startOf (drop index segs)
+  pub behind : prev ≡ lastOf (take index segs)
+  pub ahead : next ≡ startOf (drop index segs)
 
 -- the place of the first that passes a test
 pub record Spotted (segs : List Seg) (f : Seg → Bool) (prev next index : ℕ) : Type 0 where

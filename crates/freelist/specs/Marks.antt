@@ -8,12 +8,12 @@ use lib.ListN.{getD}
 use Rattle.freelist.specs.Segs.{Seg, endOf}
 
 -- cell c has a byte of s
-abbrev pub Holds : Seg → ℕ → Type 0
-Holds s c = (s .offset / 8 ≤ c) × (c * 8 < endOf s)
+abbrev pub Touches : Seg → ℕ → Type 0
+Touches s c = (s .offset / 8 ≤ c) × (c * 8 < endOf s)
 
 -- no cell from lo up to hi has a byte of both
 abbrev pub Free : ℕ → ℕ → Seg → Seg → Type 0
-Free lo hi s t = (c : ℕ) → lo ≤ c → c < hi → Holds s c → Holds t c → ⊥
+Free lo hi s t = (c : ℕ) → lo ≤ c → c < hi → Touches s c → Touches t c → ⊥
 
 -- the mark at i: 1 where it is set
 unfoldable pub markAt : List ℕ → ℕ → ℕ

@@ -3,7 +3,7 @@ use mathlib.Core.Bool.{Bool, false, _||_}
 use mathlib.Core.List.{List, [], _∷_, _++_}
 use Prim.Native.Nat.{ℕ, suc}
 use lib.ListN.{take, drop}
-use Rattle.records.specs.Pick.{pick}
+use Rattle.words.specs.Pick.{pick}
 
 -- how many elements stand before the first that passes, and all of them where none does
 abbrev pub place : {A : Type 0} → (A → Bool) → List A → ℕ

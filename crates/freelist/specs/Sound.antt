@@ -6,10 +6,10 @@ use Prim.Native.Nat.{ℕ}
 use lib.Dec.{eqb}
 use lib.ListN.{length}
 use Rattle.words.specs.Word.{wordAt, sizeHalf, nextHalf, endMark}
-use Rattle.records.specs.Pick.{pick}
+use Rattle.words.specs.Pick.{pick}
 use Rattle.records.specs.Head.{Head, headSound}
-use Rattle.records.specs.declared.Freelist.{Freelist}
-use Rattle.records.specs.declared.Freelist.the-variants.{None, Ordered}
+use Rattle.records.specs.declared.Policy.{Policy}
+use Rattle.records.specs.declared.Policy.the-variants.{None, Ordered}
 use Rattle.records.specs.declared.Shape.{Shape}
 use Rattle.records.specs.declared.Header.{Header}
 use Rattle.freelist.specs.Segs.{Seg, Covers, Run, All, Pairwise, InRange, Leads}
@@ -22,23 +22,23 @@ abbrev pub firstOf : Header → ℕ
 firstOf h = nextHalf (h .sentinel)
 
 -- 01: policy None has an empty list
-abbrev pub listSound : Freelist → ℕ → ℕ → List ℕ → ℕ → Bool
+abbrev pub listSound : Policy → ℕ → ℕ → List ℕ → ℕ → Bool
 listSound None start top l head = eqb head endMark
 listSound (Ordered o) start top l head = soundb l head start top o
 
 -- 01: arena sound: head sound; sentinel size half is the end mark; and the list
 unfoldable pub sound : Shape → Header → List ℕ → Bool
 sound s h l =
-    headSound s h (length l) && eqb (sizeHalf (h .sentinel)) endMark && listSound (s .freelist) (s .«data_offset») (h .allocated) l (firstOf h)
+    headSound s h (length l) && eqb (sizeHalf (h .sentinel)) endMark && listSound (s .policy) (s .«data_offset») (h .allocated) l (firstOf h)
 
 -- the free segments that a walk from head finds
-abbrev pub freeFrom : Freelist → ℕ → ℕ → List ℕ → ℕ → List Seg
+abbrev pub freeFrom : Policy → ℕ → ℕ → List ℕ → ℕ → List Seg
 freeFrom None start top l head = []
 freeFrom (Ordered o) start top l head = goodRun l head start top o
 
 -- the free segments of a sound arena, in the list's order
 unfoldable pub free : Shape → Header → List ℕ → List Seg
-free s h l = freeFrom (s .freelist) (s .«data_offset») (h .allocated) l (firstOf h)
+free s h l = freeFrom (s .policy) (s .«data_offset») (h .allocated) l (firstOf h)
 
 -- what the soundness check says
 unfoldable pub surveyed : Shape → Header → List ℕ → Finding
@@ -49,7 +49,7 @@ abbrev pub Disjoint : Seg → Seg → Type 0
 Disjoint a b = (x : ℕ) → Covers a x → Covers b x → ⊥
 
 -- 01: policy None has an empty list; sizes never fall along a pessimistic list and never rise along an optimistic one
-abbrev pub InOrder : Freelist → List Seg → Type 0
+abbrev pub InOrder : Policy → List Seg → Type 0
 InOrder None segs = segs ≡ []
 InOrder (Ordered o) segs = Pairwise (Leads o) segs
 
@@ -63,4 +63,4 @@ pub record Sound (s : Shape) (h : Header) (l : List ℕ) : Type 0 where
   pub reaches : Run (wordAt l) (firstOf h) segs endMark
   pub each : All (InRange (s .«data_offset») (h .allocated)) segs
   pub apart : Pairwise Disjoint segs
-  pub ordered : InOrder (s .freelist) segs
+  pub ordered : InOrder (s .policy) segs

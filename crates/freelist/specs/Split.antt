@@ -5,8 +5,8 @@ use Prim.Native.Nat.{ℕ, _/_}
 use lib.ListN.{length}
 use Rattle.words.specs.Word.{wordAt}
 use Rattle.records.specs.declared.Order.{Order}
-use Rattle.records.specs.declared.Freelist.{Freelist}
-use Rattle.records.specs.declared.Freelist.the-variants.{None, Ordered}
+use Rattle.records.specs.declared.Policy.{Policy}
+use Rattle.records.specs.declared.Policy.the-variants.{None, Ordered}
 use Rattle.freelist.specs.Segs.{Seg, endOf}
 use Rattle.freelist.specs.Check.{meets, inRange, follows, kept}
 
@@ -19,7 +19,7 @@ unfoldable pub rangedRun : List ℕ → ℕ → ℕ → ℕ → Order → List S
 rangedRun l head start top o = kept (length l / 16) (wordAt l) (mayCome start top o) [] head
 
 -- by a policy, the segments that a walk from head passes
-abbrev pub walkFrom : Freelist → ℕ → ℕ → List ℕ → ℕ → List Seg
+abbrev pub walkFrom : Policy → ℕ → ℕ → List ℕ → ℕ → List Seg
 walkFrom None start top l head = []
 walkFrom (Ordered o) start top l head = rangedRun l head start top o
 

@@ -1,9 +1,9 @@
 // The free list in the bytes of a lent buffer: the soundness check, the place of a node, putting in and taking out.
 // A list is a buffer, the offset of its first node and the number of its nodes, which the check gives. The policies
 // share all of it: the order is a value. What the calls answer is the crate above.
-use records::Freelist;
 use records::Header;
 use records::Order;
+use records::Policy;
 use records::Shape;
 ghost use mathlib.Core.Path.{_≡_};
 ghost use mathlib.Core.Logic.{_≢_};
@@ -12,7 +12,7 @@ ghost use Prim.Native.Nat.{_+_, _-_, _*_, _^_, min, _≤_, _<_};
 ghost use lib.ListN.{length, replicate};
 ghost use Rattle.words.specs.Word.{wordAt, endMark};
 ghost use Rattle.freelist.specs.Segs.{leads, segAt, All, Pairwise, EndsBy, InRange, Run};
-ghost use Rattle.freelist.specs.Check.{after, passed, inRange, shares, meets, anyAbove, Walked};
+ghost use Rattle.freelist.specs.Check.{followed, passed, inRange, shares, meets, anyAbove, Walked};
 ghost use Rattle.freelist.specs.Place.{any};
 ghost use Rattle.freelist.specs.Link.{linkBytes, linkHead, sizes, passes, Stands, Spotted, Inserted, Removed};
 ghost use Rattle.freelist.specs.Sound.{sound, surveyed};
@@ -216,16 +216,16 @@ fn ranged_run(buf: &[u8], head: usize, start: usize, top: usize, order: Order) -
 }
 
 // The walk by a policy: None has no list to follow.
-fn free_run(buf: &[u8], head: usize, start: usize, top: usize, policy: Freelist) -> Walk
+fn free_run(buf: &[u8], head: usize, start: usize, top: usize, policy: Policy) -> Walk
     requires { ⌜ top ≤ length (now buf) ⌝ }
     ensures { λ r. ⌜ Walked (now (buf .entry)) head (walkFrom policy start top (now (buf .entry)) head) (r .count) (r .stop) ⌝ }
 {
     match policy {
-        Freelist::None => Walk {
+        Policy::None => Walk {
             count: 0,
             stop: head,
         },
-        Freelist::Ordered(order) => ranged_run(buf, head, start, top, order),
+        Policy::Ordered(order) => ranged_run(buf, head, start, top, order),
     }
 }
 
@@ -387,7 +387,7 @@ pub fn survey(shape: Shape, header: Header, buf: &[u8]) -> Finding
     if sentinel / HALF != END_MARK as u64 {
         return Finding::Unsound;
     }
-    let policy = shape.freelist;
+    let policy = shape.policy;
     let head = (sentinel % HALF) as usize;
     let top = header.allocated as usize;
     let run = free_run(buf, head, shape.data_offset as usize, top, policy);
@@ -414,7 +414,7 @@ pub fn arena_sound(shape: Shape, header: Header, buf: &[u8]) -> bool
 // The place in a list of `count` nodes of the first that passes a test.
 pub fn find_place(buf: &[u8], head: usize, count: usize, test: Test) -> Spot
     requires { ⌜ All (EndsBy (length (now buf))) (passed (wordAt (now buf)) count head) ⌝ }
-    requires { ⌜ after (wordAt (now buf)) count head ≡ endMark ⌝ }
+    requires { ⌜ followed (wordAt (now buf)) count head ≡ endMark ⌝ }
     ensures { λ r. ⌜ Spotted (passed (wordAt (now (buf .entry))) count head) (passes test) (r .prev) (r .next) (r .index) ⌝ }
 {
     let mut prev = END_MARK;
@@ -467,7 +467,7 @@ pub fn insert(
     size: usize,
 ) -> usize
     requires { ⌜ All (EndsBy (length (now buf))) (passed (wordAt (now buf)) count head) ⌝ }
-    requires { ⌜ after (wordAt (now buf)) count head ≡ endMark ⌝ }
+    requires { ⌜ followed (wordAt (now buf)) count head ≡ endMark ⌝ }
     requires { ⌜ (offset + 8 + size ≤ length (now buf)) × (length (now buf) < 4294967295) ⌝ }
     ensures { λ r.
         ⌜

@@ -4,8 +4,8 @@ use libc::STDOUT_FILENO;
 use records::Answer;
 use records::Begun;
 use records::Block;
-use records::Freelist;
 use records::Header;
+use records::Policy;
 use records::Reply;
 use records::Settings;
 use records::Shape;
@@ -64,12 +64,12 @@ fn refused(number: u64) -> Desk {
         data_offset: 0,
         unify: false,
         read_only: true,
-        freelist: Freelist::None,
+        policy: Policy::None,
     };
     let header = Header {
         sentinel: 0,
         allocated: 0,
-        min_segment_size: 0,
+        minimum_segment_size: 0,
         discarded: 0,
     };
     let slots = no_blocks();

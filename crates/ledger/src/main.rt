@@ -25,7 +25,7 @@ fn settings(reserved: u32, unify: bool, policy: u8) -> Settings {
         reserved,
         unify,
         policy,
-        min_segment_size: 20,
+        minimum_segment_size: 20,
         read_only: false,
     }
 }

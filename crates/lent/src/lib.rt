@@ -5,15 +5,15 @@ use records::Header;
 use records::Position;
 use records::Shape;
 ghost use mathlib.Core.Path.{_≡_};
+ghost use Rattle.records.specs.Answer.{said, leaves};
 ghost use Rattle.records.specs.declared.Request.the-variants.{Bytes};
 ghost use Rattle.arena.specs.Take.{taking};
 ghost use Rattle.arena.specs.Give.{givingBack};
 ghost use Rattle.arena.specs.Rewind.{rewinding};
-ghost use Rattle.lent.specs.Left.{left};
 
 // A bytes request.
 pub fn alloc_bytes(shape: Shape, header: &mut Header, buf: &mut [u8], size: u32) -> Answer
-    ensures { λ r. ⌜ left r (now (header .exit)) (now (buf .exit)) ≡ taking shape (now (header .entry)) (now (buf .entry)) (Bytes size) ⌝ }
+    ensures { λ r. ⌜ leaves (said r) (now (header .exit)) (now (buf .exit)) ≡ taking shape (now (header .entry)) (now (buf .entry)) (Bytes size) ⌝ }
 {
     let reply = arena::alloc_bytes(shape, *header, buf, size);
     *header = reply.header;
@@ -22,7 +22,7 @@ pub fn alloc_bytes(shape: Shape, header: &mut Header, buf: &mut [u8], size: u32)
 
 // A give-back of the memory range from offset on.
 pub fn dealloc(shape: Shape, header: &mut Header, buf: &mut [u8], offset: u32, size: u32) -> Answer
-    ensures { λ r. ⌜ left r (now (header .exit)) (now (buf .exit)) ≡ givingBack shape (now (header .entry)) (now (buf .entry)) offset size ⌝ }
+    ensures { λ r. ⌜ leaves (said r) (now (header .exit)) (now (buf .exit)) ≡ givingBack shape (now (header .entry)) (now (buf .entry)) offset size ⌝ }
 {
     let reply = arena::dealloc(shape, *header, buf, offset, size);
     *header = reply.header;
@@ -31,7 +31,7 @@ pub fn dealloc(shape: Shape, header: &mut Header, buf: &mut [u8], offset: u32, s
 
 // A rewind. The buffer is read, and no byte of it is written.
 pub fn rewind(shape: Shape, header: &mut Header, buf: &[u8], position: Position) -> Answer
-    ensures { λ r. ⌜ left r (now (header .exit)) (now (buf .entry)) ≡ rewinding shape (now (header .entry)) (now (buf .entry)) position ⌝ }
+    ensures { λ r. ⌜ leaves (said r) (now (header .exit)) (now (buf .entry)) ≡ rewinding shape (now (header .entry)) (now (buf .entry)) position ⌝ }
 {
     let reply = arena::rewind(shape, *header, buf, position);
     *header = reply.header;

@@ -2,7 +2,7 @@
 use Prim.Native.Nat.{ℕ, _-_, max, min}
 use lib.Dec.{leb, eqb}
 use lib.IntN.{ℤ, pos, negsuc, _+ℤ_}
-use Rattle.records.specs.Pick.{pick}
+use Rattle.words.specs.Pick.{pick}
 use Rattle.records.specs.declared.Position.{Position}
 use Rattle.records.specs.declared.Position.the-variants.{Start, Current, End}
 

@@ -24,11 +24,11 @@ module _ {s : Shape} {st : State} (k : Kept s st) (c : Call) where
   pub left-onward : (x : Said) {before : List Block} {h : Header} {l : List ℕ} {segs : List Seg}
       → ((b : Block) → List·Memᴰ b (st .held) → List·Memᴰ b (heldAfter (st .held) c x (h .allocated)) → List·Memᴰ b before)
       → Onward s (st .bytes) before h l segs (heldAfter (st .held) c x (h .allocated)) → Left s st c (leaves x h l)
-  left-onward x which m = record { kept = keeps (k .writable) (m .holding); still = λ b held after. m .still b (which b held after) }
+  left-onward x which m = record { kept = keeps (k .writable) (m .holding); still = λ b held stays. m .still b (which b held stays) }
 
   -- an outcome that leaves all bytes
   pub left-quiet : (x : Said) (h : Header) → Kept s (record { header = h; bytes = st .bytes; held = heldAfter (st .held) c x (h .allocated) }) → Left s st c (leaves x h (st .bytes))
-  left-quiet x h m = record { kept = m; still = λ b held after y low high. refl }
+  left-quiet x h m = record { kept = m; still = λ b held stays y low high. refl }
 
 -- a refused call changes nothing
 pub left-refused : {s : Shape} {st : State} → Kept s st → (c : Call) (n : ℕ) (carried : List ℕ) → Left s st c (refuses n carried (st .header) (st .bytes))

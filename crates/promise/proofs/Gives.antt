@@ -10,13 +10,13 @@ use native.Mathlib.Omega.{arith}
 use borrow.Author.Tests.{le-ltb, eqb-true, eqb-false, not-true}
 use lib.Dec.{eqb}
 use Rattle.words.proofs.Ranges.{Parted, parted-flip, parted-parts, parted-below}
-use Rattle.records.specs.Pick.{pick}
+use Rattle.words.specs.Pick.{pick}
 use Rattle.records.specs.Answer.{Outcome, leaves, givenBack}
 use Rattle.records.specs.Rule.{segmentOf}
 use Rattle.records.specs.Change.{withTop, withFirst, losing}
 use Rattle.records.specs.declared.Order.{Order}
-use Rattle.records.specs.declared.Freelist.{Freelist}
-use Rattle.records.specs.declared.Freelist.the-variants.{None, Ordered}
+use Rattle.records.specs.declared.Policy.{Policy}
+use Rattle.records.specs.declared.Policy.the-variants.{None, Ordered}
 use Rattle.records.specs.declared.Shape.{Shape}
 use Rattle.records.specs.declared.Header.{Header}
 use Rattle.records.specs.declared.Block.{Block}
@@ -72,7 +72,7 @@ module _ {s : Shape} {h : Header} {l : List ℕ} {segs : List Seg} {held : List 
       (λ c r d. parted-below _ _ (c .«memory_offset») (hullEnd c) top (r .below) (omega arith) (omega (arith, p .some)) (omega (arith, r .some)) d) others (rest .placed) apart)
 
   -- below it: a segment inside the block's memory
-  module _ (o : Order) (policy : s .freelist ≡ Ordered o) (q : Seg) (c : Cut (b .«memory_offset») (b .«memory_size») (q .offset) (q .size)) where
+  module _ (o : Order) (policy : s .policy ≡ Ordered o) (q : Seg) (c : Cut (b .«memory_offset») (b .«memory_size») (q .offset) (q .size)) where
     inside : (x y : ℕ) → Parted (b .«memory_offset») (hullEnd b) x y → Parted x y (q .offset) (endOf q)
     inside x y e = parted-parts x y (q .offset) (endOf q) (omega arith) (omega arith) (c .low) (omega (arith, c .ends)) (parted-flip (b .«memory_offset») (hullEnd b) x y e)
 
@@ -92,7 +92,7 @@ module _ {s : Shape} {st : State} (k : Kept s st) (b : Block) (mem : List·Mem�
   -- no test of a give-back refuses it
   gives-held : givingBack s (st .header) (st .bytes) (b .«memory_offset») (b .«memory_size»)
       ≡ pick (eqb (b .«memory_offset» + b .«memory_size») (st .header .allocated)) (leaves (givenBack true) (withTop (st .header) (b .«memory_offset»)) (st .bytes))
-      (belowTop (s .freelist) s (st .header) (st .bytes) (b .«memory_offset») (b .«memory_size»))
+      (belowTop (s .policy) s (st .header) (st .bytes) (b .«memory_offset») (b .«memory_size»))
   unfolding givingBack
   gives-held =
       let a = b .«memory_offset» in
@@ -110,21 +110,21 @@ module _ {s : Shape} {st : State} (k : Kept s st) (b : Block) (mem : List·Mem�
   gives-one : (P : Outcome → Type 0)
       → (b .«memory_offset» + b .«memory_size» ≡ st .header .allocated → P (leaves (givenBack true) (withTop (st .header) (b .«memory_offset»)) (st .bytes)))
       → ((x : Bool) → P (leaves (givenBack x) (losing (st .header) (b .«memory_size»)) (st .bytes)))
-      → ((o : Order) → s .freelist ≡ Ordered o → (p n : ℕ) → segmentOf (st .header .«min_segment_size») (b .«memory_offset») (b .«memory_size») ≡ At p n
+      → ((o : Order) → s .policy ≡ Ordered o → (p n : ℕ) → segmentOf (st .header .«minimum_segment_size») (b .«memory_offset») (b .«memory_size») ≡ At p n
       → P (putIn (st .header) (st .bytes) (freeIn s st) o (b .«memory_size») (At p n)))
       → P (givingBack s (st .header) (st .bytes) (b .«memory_offset») (b .«memory_size»))
   unfolding belowTop putIn
   gives-one P top lost new =
-      rw gives-held (pick-either P (eqb (b .«memory_offset» + b .«memory_size») (st .header .allocated)) _ _ (λ e. top (eqb-true _ _ e)) (λ _. below (s .freelist) refl))
+      rw gives-held (pick-either P (eqb (b .«memory_offset» + b .«memory_size») (st .header .allocated)) _ _ (λ e. top (eqb-true _ _ e)) (λ _. below (s .policy) refl))
     where
-      put : (o : Order) → s .freelist ≡ Ordered o → (x : Segment) → segmentOf (st .header .«min_segment_size») (b .«memory_offset») (b .«memory_size») ≡ x
+      put : (o : Order) → s .policy ≡ Ordered o → (x : Segment) → segmentOf (st .header .«minimum_segment_size») (b .«memory_offset») (b .«memory_size») ≡ x
           → P (putIn (st .header) (st .bytes) (freeIn s st) o (b .«memory_size») x)
       put o policy Refused e = lost false
       put o policy (At p n) e = new o policy p n e
 
-      below : (f : Freelist) → s .freelist ≡ f → P (belowTop f s (st .header) (st .bytes) (b .«memory_offset») (b .«memory_size»))
+      below : (f : Policy) → s .policy ≡ f → P (belowTop f s (st .header) (st .bytes) (b .«memory_offset») (b .«memory_size»))
       below None policy = lost true
-      below (Ordered o) policy = put o policy (segmentOf (st .header .«min_segment_size») (b .«memory_offset») (b .«memory_size»)) refl
+      below (Ordered o) policy = put o policy (segmentOf (st .header .«minimum_segment_size») (b .«memory_offset») (b .«memory_size»)) refl
 
   pub give-taken : Taken (givingBack s (st .header) (st .bytes) (b .«memory_offset») (b .«memory_size»))
   unfolding putIn
@@ -138,4 +138,4 @@ module _ {s : Shape} {st : State} (k : Kept s st) (b : Block) (mem : List·Mem�
       gives-one (Left s st c)
       (λ e. left-quiet k c (givenBack true) _ (keeps (k .writable) (lowered (k .holding) b mem e)))
       (λ x. left-quiet k c (givenBack x) _ (keeps (k .writable) (hold-counters (rest (k .holding) b mem) _ refl refl)))
-      (λ o policy p n e. left-onward k c (givenBack true) (λ x held after. after) (returned (k .holding) b mem o policy (record { offset = p; size = n }) (cut-of _ _ _ p n e)))
+      (λ o policy p n e. left-onward k c (givenBack true) (λ x held stays. stays) (returned (k .holding) b mem o policy (record { offset = p; size = n }) (cut-of _ _ _ p n e)))

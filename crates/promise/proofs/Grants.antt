@@ -12,8 +12,8 @@ use Rattle.records.specs.Answer.{Outcome, granted, refused, refuses}
 use Rattle.records.specs.Rule.{segmentOf}
 use Rattle.records.proofs.Facts.{facts-head}
 use Rattle.records.specs.declared.Order.{Order}
-use Rattle.records.specs.declared.Freelist.{Freelist}
-use Rattle.records.specs.declared.Freelist.the-variants.{None, Ordered}
+use Rattle.records.specs.declared.Policy.{Policy}
+use Rattle.records.specs.declared.Policy.the-variants.{None, Ordered}
 use Rattle.records.specs.declared.Shape.{Shape}
 use Rattle.records.specs.declared.Header.{Header}
 use Rattle.records.specs.declared.Block.{Block}
@@ -30,7 +30,7 @@ use Rattle.freelist.proofs.Places.{all-mem, mem-at}
 use Rattle.arena.specs.Take.{found, serveFrom, nowhere, serve, pastTop, taking}
 use Rattle.promise.specs.Runs.{State, freeIn, Best, PastTop}
 use Rattle.promise.proofs.Holding.{Kept, hold-head, hold-good}
-use Rattle.promise.proofs.Looks.{Looked, past-each}
+use Rattle.promise.proofs.Looks.{FindsBest, past-each}
 
 -- an outcome grants a block; some segment fits a request; a best segment that fits was taken for a block: as the promise has it
 abbrev pub Grants : Outcome → Type 0
@@ -41,7 +41,7 @@ Fits s st r = (g : Seg) × List·Memᴰ g (freeIn s st) × (need (plain r) ≤ g
 
 abbrev pub Chosen : Shape → State → Request → Block → Type 0
 Chosen s st r b =
-    (g : Seg) × List·Memᴰ g (freeIn s st) × (b .«memory_offset» ≡ g .offset) × (need (plain r) ≤ g .size) × Best (s .freelist) (need (plain r)) g (freeIn s st)
+    (g : Seg) × List·Memᴰ g (freeIn s st) × (b .«memory_offset» ≡ g .offset) × (need (plain r) ≤ g .size) × Best (s .policy) (need (plain r)) g (freeIn s st)
 
 -- a segment that serves a request grants a block that starts where it does
 record GrantsAt (at : ℕ) (o : Outcome) : Type 0 where
@@ -55,7 +55,7 @@ module _ (h : Header) (l : List ℕ) (segs : List Seg) (o : Order) (r : Request)
 
   serve-grants : GrantsAt (g .offset) (serve h l segs o r i)
   unfolding serve serveFrom
-  serve-grants = go (segmentOf (h .«min_segment_size») (g .offset + 8 + need r) (g .size - need r))
+  serve-grants = go (segmentOf (h .«minimum_segment_size») (g .offset + 8 + need r) (g .size - need r))
     where
       go : (x : Segment) → GrantsAt (g .offset) (serveFrom h (removeBytes l segs i) (removeHead (firstOf h) segs i) (removeAt i segs) o r g x)
       go Refused = record { block = listBlock (g .offset) (g .size) r; is = refl; starts = block-in-list _ _ r formed fits .starts }
@@ -67,7 +67,7 @@ refused-grants n carried b e = false≢true cc
 
 module _ {s : Shape} {st : State} (k : Kept s st) (r : Request) (past : PastTop s st r) where
   -- no test before the list's refuses the request or meets it
-  takes-past : taking s (st .header) (st .bytes) r ≡ pastTop (s .freelist) s (st .header) (st .bytes) (plain r)
+  takes-past : taking s (st .header) (st .bytes) r ≡ pastTop (s .policy) s (st .header) (st .bytes) (plain r)
   unfolding taking
   takes-past =
       simp (
@@ -85,13 +85,13 @@ module _ {s : Shape} {st : State} (k : Kept s st) (r : Request) (past : PastTop 
 
   -- what holds of each way to go past the top holds of the request
   past-one : (P : Outcome → Type 0)
-      → ((carried : List ℕ) → s .freelist ≡ None → P (refuses 9 carried (st .header) (st .bytes)))
+      → ((carried : List ℕ) → s .policy ≡ None → P (refuses 9 carried (st .header) (st .bytes)))
       → ((carried : List ℕ) → All (λ g. g .size < need (plain r)) (freeIn s st) → P (refuses 9 carried (st .header) (st .bytes)))
-      → ((o : Order) → s .freelist ≡ Ordered o → (i : ℕ) → Looked o (need (plain r)) (freeIn s st) (found i) → P (serve (st .header) (st .bytes) (freeIn s st) o (plain r) i))
+      → ((o : Order) → s .policy ≡ Ordered o → (i : ℕ) → FindsBest o (need (plain r)) (freeIn s st) (found i) → P (serve (st .header) (st .bytes) (freeIn s st) o (plain r) i))
       → P (taking s (st .header) (st .bytes) r)
   past-one P none small served = rw takes-past (past-each s (st .header) (st .bytes) (hold-good (k .holding)) (plain r) P none small served)
 
-  pub grants-exactly : (s .freelist ≡ None → ⊥) → Grants (taking s (st .header) (st .bytes) r) ↔ Fits s st r
+  pub grants-exactly : (s .policy ≡ None → ⊥) → Grants (taking s (st .header) (st .bytes) r) ↔ Fits s st r
   grants-exactly ordered =
       past-one (λ (x : Outcome). Grants x ↔ Fits s st r) (λ carried none. absurd (ordered none))
       (λ carried small. (λ b. absurd (refused-grants _ _ (b .0) (b .1)), λ g. absurd (too-small g (all-mem (λ (f : Seg). f .size < need (plain r)) (g .0) (freeIn s st) (g .1) small))))
@@ -107,4 +107,4 @@ module _ {s : Shape} {st : State} (k : Kept s st) (r : Request) (past : PastTop 
       let g = getD (freeIn s st) i nowhere in
       let y = serves o i (x .1) in
       let same : y .block ≡ b = cc in
-      (g, mem-at (freeIn s st) i nowhere (x .0), rw same at (y .starts), x .1, subst⁻¹ (λ (f : Freelist). Best f (need (plain r)) g (freeIn s st)) policy (x .2)))
+      (g, mem-at (freeIn s st) i nowhere (x .0), rw same at (y .starts), x .1, subst⁻¹ (λ (f : Policy). Best f (need (plain r)) g (freeIn s st)) policy (x .2)))

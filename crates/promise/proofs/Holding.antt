@@ -13,7 +13,7 @@ use Rattle.words.proofs.Ranges.{parted-flip, parted-parts}
 use Rattle.words.proofs.Stills.{zeroed-still}
 use Rattle.records.specs.Head.{Head}
 use Rattle.records.specs.declared.Order.{Order}
-use Rattle.records.specs.declared.Freelist.the-variants.{Ordered}
+use Rattle.records.specs.declared.Policy.the-variants.{Ordered}
 use Rattle.records.specs.declared.Shape.{Shape}
 use Rattle.records.specs.declared.Header.{Header}
 use Rattle.records.specs.declared.Block.{Block}
@@ -75,7 +75,7 @@ module _ {s : Shape} {h : Header} {l : List ℕ} {segs : List Seg} {held : List 
   hold-ends : All (EndsBy (length l)) segs
   hold-ends = rw (k .lists) at (sound-ends s h l (k .sounds))
 
-  pub hold-good : (o : Order) → s .freelist ≡ Ordered o → Good (s .«data_offset») (h .allocated) o segs
+  pub hold-good : (o : Order) → s .policy ≡ Ordered o → Good (s .«data_offset») (h .allocated) o segs
   hold-good o policy = subst (λ (gs : List Seg). Good (s .«data_offset») (h .allocated) o gs) (k .lists) (sound-listed s h l (k .sounds) o policy .good)
 
   -- what is known of a held block
@@ -161,7 +161,7 @@ module _ {s : Shape} {h : Header} {l : List ℕ} {segs : List Seg} {held : List 
         }
 
     -- a segment is put in that no block has a byte of
-    pub hold-insert : (o : Order) → s .freelist ≡ Ordered o → (q : Seg) → InRange (s .«data_offset») (h .allocated) q → All (λ t. Apart t q) segs → All (λ b. Clear b q) held
+    pub hold-insert : (o : Order) → s .policy ≡ Ordered o → (q : Seg) → InRange (s .«data_offset») (h .allocated) q → All (λ t. Apart t q) segs → All (λ b. Clear b q) held
         → h′ .sentinel ≡ nodeWord endMark (insertHead (firstOf h) segs (place (leads o q) segs) q)
         → Onward s l held h′ (insertBytes l segs (place (leads o q) segs) q) (insertAt (place (leads o q) segs) q segs) held
     hold-insert o policy q range off c e =

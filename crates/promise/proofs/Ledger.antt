@@ -18,8 +18,8 @@ use Rattle.records.specs.Rule as Ru
 use Rattle.records.specs.Rule.{segmentOf}
 use Rattle.records.specs.declared.Order.{Order}
 use Rattle.records.specs.declared.Order.the-variants.{Optimistic, Pessimistic}
-use Rattle.records.specs.declared.Freelist.{Freelist}
-use Rattle.records.specs.declared.Freelist.the-variants.{None, Ordered}
+use Rattle.records.specs.declared.Policy.{Policy}
+use Rattle.records.specs.declared.Policy.the-variants.{None, Ordered}
 use Rattle.records.specs.declared.Settings.{Settings}
 use Rattle.records.specs.declared.Shape.{Shape}
 use Rattle.records.specs.declared.Request.{Request}
@@ -52,9 +52,9 @@ pub data Figure : Type 0 where
   rule : Segment → Figure
   setup : Began → Figure
 
-abbrev pub shape : ℕ → ℕ → Freelist → Shape
+abbrev pub shape : ℕ → ℕ → Policy → Shape
 shape cap start f =
-    record { cap = cap; reserved = start - 1; «data_offset» = start; unify = false; «read_only» = false; freelist = f }
+    record { cap = cap; reserved = start - 1; «data_offset» = start; unify = false; «read_only» = false; policy = f }
 
 abbrev pub take′ : Shape → Outcome → Request → Outcome
 take′ s o r = taking s (o .header) (o .bytes) r
@@ -69,7 +69,7 @@ policy Pessimistic = 2
 
 -- 01: start S: cap 200, reserved 7 (data offset 8), minimum 20: what setup is given, and the fresh arena
 abbrev pub settings : Order → Settings
-settings o = record { reserved = 7; unify = false; policy = policy o; «min_segment_size» = 20; «read_only» = false }
+settings o = record { reserved = 7; unify = false; policy = policy o; «minimum_segment_size» = 20; «read_only» = false }
 
 abbrev pub day : Order → Shape
 day o = shape 200 8 (Ordered o)
@@ -119,8 +119,8 @@ asks o r = says (taken o r .says)
 abbrev pub keeping : Order → Outcome → Figure
 keeping o x = list (free (day o) (x .header) (x .bytes)) (x .header .discarded)
 
-abbrev pub after : Order → Request → Figure
-after o r = keeping o (taken o r)
+abbrev pub keptAfter : Order → Request → Figure
+keptAfter o r = keeping o (taken o r)
 
 abbrev pub seg : ℕ → ℕ → Seg
 seg p n = record { offset = p; size = n }
@@ -175,18 +175,18 @@ sortedLists =
 abbrev pub bytesThirty : List Line
 bytesThirty =
     line (asks Pessimistic (Bytes 30)) (block4 8 32 16 30)
-    ∷ line (after Pessimistic (Bytes 30)) (list (seg 48 52 ∷ []) 16)
+    ∷ line (keptAfter Pessimistic (Bytes 30)) (list (seg 48 52 ∷ []) 16)
     ∷ line (asks Optimistic (Bytes 30)) (block4 48 52 56 30)
-    ∷ line (after Optimistic (Bytes 30)) (list (seg 8 32 ∷ []) 16)
+    ∷ line (keptAfter Optimistic (Bytes 30)) (list (seg 8 32 ∷ []) 16)
     ∷ []
 
 -- bytes 4, optimistic: memory (48,4), usable (56,4), list 64 with 36, then 8; discarded 24. Pessimistic: (8,32), (16,4), no split
 abbrev pub bytesFour : List Line
 bytesFour =
     line (asks Optimistic (Bytes 4)) (block4 48 4 56 4)
-    ∷ line (after Optimistic (Bytes 4)) (list (seg 64 36 ∷ seg 8 32 ∷ []) 24)
+    ∷ line (keptAfter Optimistic (Bytes 4)) (list (seg 64 36 ∷ seg 8 32 ∷ []) 24)
     ∷ line (asks Pessimistic (Bytes 4)) (block4 8 32 16 4)
-    ∷ line (after Pessimistic (Bytes 4)) (list (seg 48 52 ∷ []) 16)
+    ∷ line (keptAfter Pessimistic (Bytes 4)) (list (seg 48 52 ∷ []) 16)
     ∷ []
 
 -- bytes 53: pessimistic 9 (53, 0), optimistic 9 (53, 52)

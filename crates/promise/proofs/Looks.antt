@@ -13,8 +13,8 @@ use Rattle.records.proofs.Facts.{pick-either}
 use Rattle.records.specs.Answer.{Outcome, refuses}
 use Rattle.records.specs.declared.Order.{Order}
 use Rattle.records.specs.declared.Order.the-variants.{Optimistic, Pessimistic}
-use Rattle.records.specs.declared.Freelist.{Freelist}
-use Rattle.records.specs.declared.Freelist.the-variants.{None, Ordered}
+use Rattle.records.specs.declared.Policy.{Policy}
+use Rattle.records.specs.declared.Policy.the-variants.{None, Ordered}
 use Rattle.records.specs.declared.Shape.{Shape}
 use Rattle.records.specs.declared.Header.{Header}
 use Rattle.records.specs.declared.Request.{Request}
@@ -29,51 +29,51 @@ use Rattle.arena.specs.Take.{Found, found, missed, headFit, firstFit, look, now
 use Rattle.promise.specs.Runs.{Best}
 
 -- what is known of a find
-abbrev pub Looked : Order → ℕ → List Seg → Found → Type 0
-Looked o n segs (found k) = (k < length segs) × (n ≤ getD segs k nowhere .size) × Best (Ordered o) n (getD segs k nowhere) segs
-Looked o n segs (missed room) = All (λ g. g .size < n) segs
+abbrev pub FindsBest : Order → ℕ → List Seg → Found → Type 0
+FindsBest o n segs (found k) = (k < length segs) × (n ≤ getD segs k nowhere .size) × Best (Ordered o) n (getD segs k nowhere) segs
+FindsBest o n segs (missed room) = All (λ g. g .size < n) segs
 
 module _ (start top n room : ℕ) where
   -- the head of a falling list is a largest, and where it has no room none has
-  head-looked : (segs : List Seg) → Good start top Optimistic segs → Looked Optimistic n segs (headFit n room segs)
+  head-finds : (segs : List Seg) → Good start top Optimistic segs → FindsBest Optimistic n segs (headFit n room segs)
   unfolding headFit
-  head-looked [] g = tt
-  head-looked (s ∷ ss) g =
-      pick-either (Looked Optimistic n (s ∷ ss)) (leb n (s .size)) _ _
+  head-finds [] g = tt
+  head-finds (s ∷ ss) g =
+      pick-either (FindsBest Optimistic n (s ∷ ss)) (leb n (s .size)) _ _
       (λ e. (omega arith, leb-true _ _ e, head-largest start top s ss g))
       (λ e. (leb-false _ _ e, all-map (Leads Optimistic s) (λ u. u .size < n) (λ u h. omega (arith, leb-true, leb-false)) ss (g .sorted .0)))
 
   -- the first with room in a rising list is a smallest with room
-  first-looked : (segs : List Seg) → Good start top Pessimistic segs → Looked Pessimistic n segs (firstFit n room segs)
+  first-finds : (segs : List Seg) → Good start top Pessimistic segs → FindsBest Pessimistic n segs (firstFit n room segs)
   unfolding firstFit
-  first-looked segs g =
+  first-finds segs g =
       let k = place (λ s. leb n (s .size)) segs in
-      pick-either (Looked Pessimistic n segs) (ltb k (length segs)) _ _
+      pick-either (FindsBest Pessimistic n segs) (ltb k (length segs)) _ _
       (λ e.
       let there = ltb-true _ _ e in
       (there, leb-true _ _ (place-passes _ segs nowhere there), first-smallest start top n segs (getD segs k nowhere) _ g (drop-cons segs k nowhere there)))
       (λ e. all-map (λ s. leb n (s .size) ≡ false) (λ s. s .size < n) (λ s. leb-false n (s .size)) segs (place-none _ segs (ltb-false _ _ e)))
 
-  pub looked : (o : Order) (segs : List Seg) → Good start top o segs → Looked o n segs (look o n room segs)
+  pub finds-best : (o : Order) (segs : List Seg) → Good start top o segs → FindsBest o n segs (look o n room segs)
   unfolding look
-  looked Optimistic segs g = head-looked segs g
-  looked Pessimistic segs g = first-looked segs g
+  finds-best Optimistic segs g = head-finds segs g
+  finds-best Pessimistic segs g = first-finds segs g
 
 -- what holds of the refusal under None, of a refusal where no segment has room, and of a best segment that serves the request, holds of a request past the top
-pub past-each : (s : Shape) (h : Header) (l : List ℕ) → ((o : Order) → s .freelist ≡ Ordered o → Good (s .«data_offset») (h .allocated) o (free s h l)) → (r : Request) (P : Outcome → Type 0)
-    → ((carried : List ℕ) → s .freelist ≡ None → P (refuses 9 carried h l))
+pub past-each : (s : Shape) (h : Header) (l : List ℕ) → ((o : Order) → s .policy ≡ Ordered o → Good (s .«data_offset») (h .allocated) o (free s h l)) → (r : Request) (P : Outcome → Type 0)
+    → ((carried : List ℕ) → s .policy ≡ None → P (refuses 9 carried h l))
     → ((carried : List ℕ) → All (λ g. g .size < need r) (free s h l) → P (refuses 9 carried h l))
-    → ((o : Order) → s .freelist ≡ Ordered o → (i : ℕ) → Looked o (need r) (free s h l) (found i) → P (serve h l (free s h l) o r i))
-    → P (pastTop (s .freelist) s h l r)
+    → ((o : Order) → s .policy ≡ Ordered o → (i : ℕ) → FindsBest o (need r) (free s h l) (found i) → P (serve h l (free s h l) o r i))
+    → P (pastTop (s .policy) s h l r)
 unfolding pastTop fromList
-past-each s h l good r P none small served = go (s .freelist) refl
+past-each s h l good r P none small served = go (s .policy) refl
   where
-    find : (o : Order) → s .freelist ≡ Ordered o → (f : Found) → Looked o (need r) (free s h l) f → P (fromList h l (free s h l) o r f)
+    find : (o : Order) → s .policy ≡ Ordered o → (f : Found) → FindsBest o (need r) (free s h l) f → P (fromList h l (free s h l) o r f)
     find o e (missed room) x = small (need r ∷ room ∷ []) x
     find o e (found i) x = served o e i x
 
-    go : (f : Freelist) → s .freelist ≡ f → P (pastTop f s h l r)
+    go : (f : Policy) → s .policy ≡ f → P (pastTop f s h l r)
     go None e = none _ e
     go (Ordered o) e =
         let room = s .cap - h .allocated in
-        find o e (look o (need r) room (free s h l)) (looked (s .«data_offset») (h .allocated) (need r) room o (free s h l) (good o e))
+        find o e (look o (need r) room (free s h l)) (finds-best (s .«data_offset») (h .allocated) (need r) room o (free s h l) (good o e))

@@ -9,16 +9,16 @@ use mathlib.Core.List.{List}
 use lib.Dec.{eqb}
 use lib.ListN.{length, getD}
 use Rattle.words.specs.Word.{nextHalf}
-use Rattle.records.specs.Pick.{pick}
-use Rattle.records.specs.Answer.{Said, granted, nothing, givenBack, sum, done, refused, said, Outcome, outcome, Began, ready, unready, began}
+use Rattle.words.specs.Pick.{pick}
+use Rattle.records.specs.Answer.{Said, granted, nothing, givenBack, sum, done, refused, said, Outcome, outcome, leaves, Began, ready, unready, began}
 use Rattle.records.specs.declared.Answer.{Answer}
 use Rattle.records.specs.declared.Answer.the-variants.{Granted, Nothing, GivenBack, Sum, Done, ReadOnly, Damaged, BadLayout, OutOfBounds, Overlap, CutsFreeList, InsufficientSpace}
 use Rattle.records.specs.Setup.{Offset, policyOf, defaultSettings, settingUp}
 use Rattle.records.specs.Head.{headSound}
 use Rattle.records.specs.Rule.{segmentOf}
-use Rattle.records.specs.Change.{withTop, withFirst, withLeast, losing}
+use Rattle.records.specs.Change.{withTop, withFirst, withMinimum, losing}
 use Rattle.records.specs.Part.{usablePart, usablePlace, reservedPart}
-use Rattle.records.specs.declared.Policy.{Policy}
+use Rattle.records.specs.declared.Named.{Named}
 use Rattle.records.specs.declared.Settings.{Settings}
 use Rattle.records.specs.declared.Shape.{Shape}
 use Rattle.records.specs.declared.Block.{Block}
@@ -31,8 +31,7 @@ use Rattle.records.specs.declared.Begun.the-variants.{Ready, UnknownFreelist, B
 use Rattle.positions.specs.NewTop.{newTop}
 use Rattle.freelist.specs.Sound.{sound, surveyed}
 use Rattle.freelist.specs.declared.Finding.{Finding}
-use Rattle.lent.specs.Left.{left}
-use Rattle.exports.specs.Crossing.{headerOf, shapeIn, Crossed, crossed, crossing, asked, Opened, opened, opening}
+use Rattle.exports.specs.Crossing.{headerOf, shapeIn, Crossed, crossed, crossing, Opened, opened, opening}
 use Rattle.exports.specs.declared.CShape.{CShape}
 use Rattle.exports.specs.declared.CAnswer.{CAnswer}
 use Rattle.exports.specs.declared.CBegun.{CBegun}
@@ -98,12 +97,12 @@ outcome-one o r r′ l l′ e e′ =
 unleft : Outcome → Answer × Header × List ℕ
 unleft o = (unsaid (o .says), o .header, o .bytes)
 
-unleft-left : (a : Answer) (h : Header) (l : List ℕ) → unleft (left a h l) ≡ (a, h, l)
+unleft-left : (a : Answer) (h : Header) (l : List ℕ) → unleft (leaves (said a) h l) ≡ (a, h, l)
 unfolding unleft
 unleft-left a h l = ap (λ (b : Answer). (b, h, l)) (unsaid-said a)
 
 -- two answers, headers and bytes that such a contract allows are equal
-pub left-one : (o : Outcome) (x y : Answer × Header × List ℕ) → left (x .0) (x .1) (x .2) ≡ o → left (y .0) (y .1) (y .2) ≡ o → x ≡ y
+pub left-one : (o : Outcome) (x y : Answer × Header × List ℕ) → leaves (said (x .0)) (x .1) (x .2) ≡ o → leaves (said (y .0)) (y .1) (y .2) ≡ o → x ≡ y
 left-one o x y e f = sym (unleft-left (x .0) (x .1) (x .2)) ∙ ap unleft (e ∙ sym f) ∙ unleft-left (y .0) (y .1) (y .2)
 
 -- the public calls: setup and its defaults, the calls that may change an arena, the soundness check, as a test and with the number of segments, the readers
@@ -123,7 +122,7 @@ pub data Public : Type 0 where
   writable : List ℕ → ℕ × ℕ → Block → Public
   reserved : List ℕ → Shape → Public
   lentChange : Shape → Header → List ℕ → (Shape → Header → List ℕ → Outcome) → Public
-  cSetup : List ℕ → List ℕ → ℕ → Bool → ℕ → ℕ → Bool → Public
+  cSetup : List ℕ → List ℕ → ℕ → ℕ → ℕ → ℕ → ℕ → Public
   cChange : CShape → List ℕ → List ℕ → (Shape → Header → List ℕ → Outcome) → Public
   cCheck : CShape → List ℕ → List ℕ → Public
   cRemaining : CShape → List ℕ → Public
@@ -158,7 +157,7 @@ Result (cChange c n l call) = CAnswer × List ℕ × List ℕ
 Result (cCheck c n l) = Bool
 Result (cRemaining c n) = ℕ
 Result (dataStart kept unify) = ℕ
-Result (policy code) = Policy
+Result (policy code) = Named
 Result (headCheck s h l) = Bool
 Result (segment least offset size) = Segment
 Result (first h) = ℕ
@@ -178,12 +177,12 @@ Promised (survey s h l) x = x ≡ surveyed s h l
 Promised (remaining s h) x = x ≡ s .cap - h .allocated
 Promised (allocated h) x = x ≡ h .allocated
 Promised (discarded h) x = x ≡ h .discarded
-Promised (minimum h) x = x ≡ h .«min_segment_size»
+Promised (minimum h) x = x ≡ h .«minimum_segment_size»
 Promised (usable l b) x = x ≡ usablePart l b
 Promised (writable l start b) x = (x .0 ≡ usablePart l b) × (x .1 ≡ usablePlace l start b)
 Promised (reserved l s) x = x ≡ reservedPart l s
-Promised (lentChange s h l call) x = left (x .0) (x .1) (x .2) ≡ call s h l
-Promised (cSetup n l kept unify code least readOnly) x = opened (x .0) (x .1) ≡ opening (asked kept unify code least readOnly) (length l) n
+Promised (lentChange s h l call) x = leaves (said (x .0)) (x .1) (x .2) ≡ call s h l
+Promised (cSetup n l kept unify code least readOnly) x = opened (x .0) (x .1) ≡ opening kept unify code least readOnly (length l) n
 Promised (cChange c n l call) x = crossed (x .0) (x .1) (x .2) ≡ crossing c n l call
 Promised (cCheck c n l) x = x ≡ sound (shapeIn c) (headerOf n) l
 Promised (cRemaining c n) x = x ≡ c .cap - headerOf n .allocated
@@ -194,7 +193,7 @@ Promised (segment least offset size) x = x ≡ segmentOf least offset size
 Promised (first h) x = x ≡ nextHalf (h .sentinel)
 Promised (setFirst h n) x = x ≡ withFirst h n
 Promised (setTop h n) x = x ≡ withTop h n
-Promised (setMinimum h n) x = x ≡ withLeast h n
+Promised (setMinimum h n) x = x ≡ withMinimum h n
 Promised (lose h n) x = x ≡ losing h n
 Promised (rewound start end top p) x = x ≡ newTop start end top p
 

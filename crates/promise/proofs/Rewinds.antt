@@ -9,7 +9,7 @@ use lib.Dec.{leb}
 use lib.ListN.{length}
 use Rattle.records.specs.Answer.{Outcome, leaves, sum, done}
 use Rattle.records.specs.Head.{headSound}
-use Rattle.records.specs.Change.{withTop, withLeast, losing}
+use Rattle.records.specs.Change.{withTop, withMinimum, losing}
 use Rattle.records.proofs.Facts.{both, pick-either}
 use Rattle.records.specs.declared.Shape.{Shape}
 use Rattle.records.specs.declared.Header.{Header}
@@ -70,7 +70,7 @@ module _ {s : Shape} {st : State} (k : Kept s st) where
 
   pub minimum-left : (n : ℕ) → Left s st (SetMinimum n) (settingMinimum s (st .header) (st .bytes) n)
   minimum-left n =
-      set-left (SetMinimum n) (withLeast (st .header) n) (left-quiet k (SetMinimum n) done _ (keeps (k .writable) (hold-counters (k .holding) _ refl refl)))
+      set-left (SetMinimum n) (withMinimum (st .header) n) (left-quiet k (SetMinimum n) done _ (keeps (k .writable) (hold-counters (k .holding) _ refl refl)))
 
   pub discarded-left : (n : ℕ) → Left s st (AddDiscarded n) (addingDiscarded s (st .header) (st .bytes) n)
   discarded-left n =

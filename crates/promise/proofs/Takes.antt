@@ -18,7 +18,7 @@ use Rattle.records.specs.Head.{headSound}
 use Rattle.records.specs.Rule.{segmentOf}
 use Rattle.records.specs.Change.{withTop, withFirst, losing}
 use Rattle.records.specs.declared.Order.{Order}
-use Rattle.records.specs.declared.Freelist.the-variants.{Ordered}
+use Rattle.records.specs.declared.Policy.the-variants.{Ordered}
 use Rattle.records.specs.declared.Shape.{Shape}
 use Rattle.records.specs.declared.Header.{Header}
 use Rattle.records.specs.declared.Block.{Block}
@@ -68,7 +68,7 @@ module _ {s : Shape} {h : Header} {l : List ℕ} {segs : List Seg} {held : List 
       (all-map (Placed (s .«data_offset») top) (OffBlock top end) (λ b p. inr (p .below)) held (k .placed))
 
   -- the i-th segment leaves the list and serves the request, as a whole or up to a rest that goes back
-  module _ (o : Order) (policy : s .freelist ≡ Ordered o) (some : 1 ≤ need r) (i : ℕ) (there : i < length segs) (fits : need r ≤ getD segs i nowhere .size) where
+  module _ (o : Order) (policy : s .policy ≡ Ordered o) (some : 1 ≤ need r) (i : ℕ) (there : i < length segs) (fits : need r ≤ getD segs i nowhere .size) where
     abbrev g : Seg
     g = getD segs i nowhere
 
@@ -135,17 +135,17 @@ module _ {s : Shape} {h : Header} {l : List ℕ} {segs : List Seg} {held : List 
 
 module _ {s : Shape} {st : State} (k : Kept s st) (r : Request) where
   -- a request that the i-th segment serves
-  list-left : (o : Order) → s .freelist ≡ Ordered o → (p : Request) → wellFormed p ≡ true → 1 ≤ need p
+  list-left : (o : Order) → s .policy ≡ Ordered o → (p : Request) → wellFormed p ≡ true → 1 ≤ need p
       → (i : ℕ) → i < length (freeIn s st) → need p ≤ getD (freeIn s st) i nowhere .size
       → Left s st (Take r) (serve (st .header) (st .bytes) (freeIn s st) o p i)
   unfolding serve serveFrom
   list-left o policy p formed some i there fits = go _ refl
     where
-      go : (x : Segment) → segmentOf (st .header .«min_segment_size») (getD (freeIn s st) i nowhere .offset + 8 + need p) (getD (freeIn s st) i nowhere .size - need p) ≡ x
+      go : (x : Segment) → segmentOf (st .header .«minimum_segment_size») (getD (freeIn s st) i nowhere .offset + 8 + need p) (getD (freeIn s st) i nowhere .size - need p) ≡ x
           → Left s st (Take r) (serveFrom (st .header) (removeBytes (st .bytes) (freeIn s st) i) (removeHead (firstOf (st .header)) (freeIn s st) i) (removeAt i (freeIn s st)) o p (getD (freeIn s st) i nowhere) x)
-      go Refused e = left-onward k (Take r) (granted _) (λ b held after. held) (served-whole (k .holding) p formed o policy some i there fits)
+      go Refused e = left-onward k (Take r) (granted _) (λ b held stays. held) (served-whole (k .holding) p formed o policy some i there fits)
       go (At q n) e =
-          left-onward k (Take r) (granted _) (λ b held after. held)
+          left-onward k (Take r) (granted _) (λ b held stays. held)
           (served-split (k .holding) p formed o policy some i there fits (record { offset = q; size = n }) (cut-of _ _ _ q n e))
 
   pub take-left : Left s st (Take r) (taking s (st .header) (st .bytes) r)
@@ -158,7 +158,7 @@ module _ {s : Shape} {st : State} (k : Kept s st) (r : Request) where
       (λ good. pick-either P (not (headSound s (st .header) (length (st .bytes)))) _ _ (λ _. left-refused k (Take r) _ _)
       (λ _. pick-either P (forNothing (plain r)) _ _ (λ _. left-quiet k (Take r) nothing (st .header) k)
       (λ some. let formed = plain-formed r (not-false _ good) in pick-either P (leb (want top (plain r)) (s .cap)) _ _
-      (λ room. left-onward k (Take r) (granted _) (λ b held after. held) (topped (k .holding) (plain r) formed (want-above top r (not-false _ good) some) (leb-true _ _ room)))
+      (λ room. left-onward k (Take r) (granted _) (λ b held stays. held) (topped (k .holding) (plain r) formed (want-above top r (not-false _ good) some) (leb-true _ _ room)))
       (λ _. pick-either P (not (sound s (st .header) (st .bytes))) _ _ (λ _. left-refused k (Take r) _ _)
       (λ _. past-each s (st .header) (st .bytes) (hold-good (k .holding)) (plain r) P (λ carried _. left-refused k (Take r) _ _) (λ carried _. left-refused k (Take r) _ _)
       (λ o policy i x. list-left o policy (plain r) formed (need-some r (not-false _ good) some) i (x .0) (x .1))))))))

@@ -11,15 +11,15 @@ use lib.Dec.{ltb, eqb}
 use lib.ListN.{length, replicate, getD}
 use Rattle.words.specs.Round as R
 use Rattle.words.specs.Word as W
-use Rattle.records.specs.Pick.{pick}
+use Rattle.words.specs.Pick.{pick}
 use Rattle.records.specs.Answer.{Outcome, Said, granted, nothing, givenBack, sum, done, refused, ready, leaves, refuses}
 use Rattle.records.specs.Setup as St
 use Rattle.records.specs.Change.{withFirst, losing}
 use Rattle.records.specs.Head as Hd
 use Rattle.records.specs.Rule as Ru
 use Rattle.records.specs.declared.Order.the-variants.{Optimistic}
-use Rattle.records.specs.declared.Freelist.{Freelist}
-use Rattle.records.specs.declared.Freelist.the-variants.{None, Ordered}
+use Rattle.records.specs.declared.Policy.{Policy}
+use Rattle.records.specs.declared.Policy.the-variants.{None, Ordered}
 use Rattle.records.specs.declared.Settings.{Settings}
 use Rattle.records.specs.declared.Shape.{Shape}
 use Rattle.records.specs.declared.Header.{Header}
@@ -74,8 +74,8 @@ Sounds p = (s : Shape) (st : State) → Brought p s st → Sound s (st .header) 
 abbrev pub Parts : Program → Type 0
 Parts p = (s : Shape) (st : State) → Brought p s st → Pairwise (λ a b. (x : ℕ) → Holds a x → Holds b x → ⊥) (st .held)
 
-abbrev pub Serves : Program → Type 0
-Serves p = (s : Shape) (st : State) → Brought p s st → (r : Request) → PastTop s st r → (s .freelist ≡ None → ⊥)
+abbrev pub GrantsExactly : Program → Type 0
+GrantsExactly p = (s : Shape) (st : State) → Brought p s st → (r : Request) → PastTop s st r → (s .policy ≡ None → ⊥)
     → ((b : Block) × (p s (st .header) (st .bytes) (Take r) .says ≡ granted b)) ↔ ((g : Seg) × List·Memᴰ g (freeIn s st) × (need (plain r) ≤ g .size))
 
 -- the program that the contracts state has all this
@@ -89,19 +89,19 @@ performed-sounds s st b = demand-three s st (brought-reached s b) .is-sound
 pub performed-parts : Parts performed
 performed-parts s st b = demand-three s st (brought-reached s b) .held-apart
 
-pub performed-serves : Serves performed
-performed-serves s st b = demand-three s st (brought-reached s b) .grants
+pub performed-grants-exactly : GrantsExactly performed
+performed-grants-exactly s st b = demand-three s st (brought-reached s b) .grants
 
 -- an arena of 64 bytes, and it fresh
 abbrev small : Shape
-small = record { cap = 64; reserved = 7; «data_offset» = 8; unify = false; «read_only» = false; freelist = Ordered Optimistic }
+small = record { cap = 64; reserved = 7; «data_offset» = 8; unify = false; «read_only» = false; policy = Ordered Optimistic }
 
 abbrev begin : State
 begin = record { header = St.freshHeader 8 0; bytes = replicate 64 0; held = [] }
 
 begin-brought : (p : Program) → Brought p small begin
 unfolding St.settingUp St.policyOf St.dataOffset
-begin-brought p = begun (record { reserved = 7; unify = false; policy = 1; «min_segment_size» = 0; «read_only» = false }) (begin .header) (begin .bytes) refl refl
+begin-brought p = begun (record { reserved = 7; unify = false; policy = 1; «minimum_segment_size» = 0; «read_only» = false }) (begin .header) (begin .bytes) refl refl
 
 -- the sum that is said
 abbrev sumOf : Said → ℕ
@@ -186,7 +186,7 @@ front h l size Refused = leaves (givenBack false) (losing h size) l
 front h l size (At p n) = leaves (givenBack true) (losing (withFirst h p) 8) (W.putWord l p (W.nodeWord n (firstOf h)))
 
 abbrev pub firstOnly : Program
-firstOnly = firstAnd (λ s h l offset size. front h l size (Ru.segmentOf (h .«min_segment_size») offset size))
+firstOnly = firstAnd (λ s h l offset size. front h l size (Ru.segmentOf (h .«minimum_segment_size») offset size))
 
 pub first-only-out : Sounds firstOnly → ⊥
 unfolding R.roundUp W.valueOf W.digits W.splice W.wordAt W.putWord W.zeroed St.dataOffset Hd.headSound Ru.segmentOf Rq.wellFormed Rq.plain Rq.forNothing Rq.want Rq.topBlock Rq.zeroedFrom C.inRange C.mayFollow C.kept C.goodRun C.soundb L.linkBytes L.linkHead L.insertBytes L.insertHead So.sound So.free T.fromTop T.taking G.putIn G.belowTop G.givingBack
@@ -235,12 +235,12 @@ refusesPast s h l (Rewind p) = performed s h l (Rewind p)
 refusesPast s h l (SetMinimum n) = performed s h l (SetMinimum n)
 refusesPast s h l (AddDiscarded n) = performed s h l (AddDiscarded n)
 
-pub refuses-past-out : Serves refusesPast → ⊥
+pub refuses-past-out : GrantsExactly refusesPast → ⊥
 unfolding R.roundUp W.valueOf W.digits W.splice W.wordAt W.putWord W.zeroed St.dataOffset Hd.headSound Ru.segmentOf Rq.wellFormed Rq.plain Rq.forNothing Rq.want Rq.need Rq.topBlock Rq.zeroedFrom C.inRange C.mayFollow C.kept C.goodRun C.soundb L.linkBytes L.linkHead L.insertBytes L.insertHead So.sound So.free T.fromTop T.taking G.putIn G.belowTop G.givingBack
 refuses-past-out m =
     let once = next (Give 8 24) (block 8 24 8 24, List·Memᴰ·tail (List·Memᴰ·tail (List·Memᴰ·head refl)), refl, refl) (taken-brought refusesPast) in
     let ten : PastTop small (leftBy refusesPast small (takenBy refusesPast) (Give 8 24)) (Bytes 10) = record { formed = refl; some = refl; past = omega arith } in
-    let ordered : _≡_ {A = Freelist} (Ordered Optimistic) None → ⊥ = λ e. false≢true cc in
+    let ordered : _≡_ {A = Policy} (Ordered Optimistic) None → ⊥ = λ e. false≢true cc in
     let b = m small _ once (Bytes 10) ten ordered .1 (record { offset = 8; size = 16 }, List·Memᴰ·head refl, omega arith) in
     false≢true (cc (b .1))
 

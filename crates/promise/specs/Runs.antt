@@ -6,12 +6,12 @@ use mathlib.Core.List.{List, [], _∷_, List·Memᴰ}
 use mathlib.Core.Logic.{_⊎_, _↔_}
 use lib.Dec.{leb, eqb}
 use lib.ListN.{length, getD}
-use Rattle.records.specs.Pick.{pick}
+use Rattle.words.specs.Pick.{pick}
 use Rattle.records.specs.Answer.{Said, granted, nothing, givenBack, sum, done, refused, ready}
 use Rattle.records.specs.Setup.{settingUp}
 use Rattle.records.specs.declared.Order.the-variants.{Optimistic, Pessimistic}
-use Rattle.records.specs.declared.Freelist.{Freelist}
-use Rattle.records.specs.declared.Freelist.the-variants.{None, Ordered}
+use Rattle.records.specs.declared.Policy.{Policy}
+use Rattle.records.specs.declared.Policy.the-variants.{None, Ordered}
 use Rattle.records.specs.declared.Settings.{Settings}
 use Rattle.records.specs.declared.Shape.{Shape}
 use Rattle.records.specs.declared.Header.{Header}
@@ -108,7 +108,7 @@ pub data Reached (s : Shape) : State → Type 0 where
   write : {st : State} (l : List ℕ) → Written st l → Reached s st → Reached s (record { header = st .header; bytes = l; held = st .held })
 
 -- demand 3: the optimistic list takes a largest, the pessimistic a smallest that fits, as a search of all segments that ignores list order would choose
-abbrev pub Best : Freelist → ℕ → Seg → List Seg → Type 0
+abbrev pub Best : Policy → ℕ → Seg → List Seg → Type 0
 Best None n g gs = ⊥
 Best (Ordered Optimistic) n g gs = (f : Seg) → List·Memᴰ f gs → f .size ≤ g .size
 Best (Ordered Pessimistic) n g gs = (f : Seg) → List·Memᴰ f gs → n ≤ f .size → g .size ≤ f .size
@@ -135,8 +135,8 @@ pub record Promise (s : Shape) (st : State) : Type 0 where
   pub taken-back : (b : Block) → List·Memᴰ b (st .held) →
       (x : Bool) × (performed s (st .header) (st .bytes) (Give (b .«memory_offset») (b .«memory_size»)) .says ≡ givenBack x)
   -- such a request is granted exactly if some free segment's data size is at least its need
-  pub grants : (r : Request) → PastTop s st r → (s .freelist ≡ None → ⊥) →
+  pub grants : (r : Request) → PastTop s st r → (s .policy ≡ None → ⊥) →
       ((b : Block) × (performed s (st .header) (st .bytes) (Take r) .says ≡ granted b)) ↔ ((g : Seg) × List·Memᴰ g (freeIn s st) × (need (plain r) ≤ g .size))
   -- and the segment taken is a best one
   pub chooses : (r : Request) (b : Block) → PastTop s st r → performed s (st .header) (st .bytes) (Take r) .says ≡ granted b →
-      (g : Seg) × List·Memᴰ g (freeIn s st) × (b .«memory_offset» ≡ g .offset) × (need (plain r) ≤ g .size) × Best (s .freelist) (need (plain r)) g (freeIn s st)
+      (g : Seg) × List·Memᴰ g (freeIn s st) × (b .«memory_offset» ≡ g .offset) × (need (plain r) ≤ g .size) × Best (s .policy) (need (plain r)) g (freeIn s st)

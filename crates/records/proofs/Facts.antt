@@ -5,7 +5,7 @@ use native.Mathlib.Omega.{arith}
 use mathlib.Core.Path.{_≡_, refl}
 use mathlib.Core.Bool.{Bool, true, false, _&&_, _||_, and-eq-true-iff, true≢false}
 use borrow.Author.Tests.{leb-true, eqb-true, le-leb, eq-eqb}
-use Rattle.records.specs.Pick.{pick}
+use Rattle.words.specs.Pick.{pick}
 use Rattle.records.specs.Head.{Head, headSound}
 use Rattle.records.specs.declared.Shape.{Shape}
 use Rattle.records.specs.declared.Header.{Header}

@@ -14,10 +14,10 @@ use Rattle.records.specs.Head.{Head}
 use Rattle.records.specs.Rule.{padding, segmentOf}
 use Rattle.records.specs.Setup.{limit, dataOffset, policyOf, shapeOf, freshHeader, settingUpBy, settingUp}
 use Rattle.records.specs.declared.Order.the-variants.{Optimistic, Pessimistic}
-use Rattle.records.specs.declared.Freelist.{Freelist}
-use Rattle.records.specs.declared.Freelist.the-variants.{None, Ordered}
 use Rattle.records.specs.declared.Policy.{Policy}
-use Rattle.records.specs.declared.Policy.the-variants.{Known, Unknown}
+use Rattle.records.specs.declared.Policy.the-variants.{None, Ordered}
+use Rattle.records.specs.declared.Named.{Named}
+use Rattle.records.specs.declared.Named.the-variants.{Known, Unknown}
 use Rattle.records.specs.declared.Settings.{Settings}
 use Rattle.records.specs.declared.Shape.{Shape}
 use Rattle.records.specs.declared.Header.{Header}
@@ -88,7 +88,7 @@ module _ (s : Settings) (cap : ℕ) where
   unfolding settingUp
   setup-unknown e = simp e
 
-  module _ (f : Freelist) (known : policyOf (s .policy) ≡ Known f) where
+  module _ (f : Policy) (known : policyOf (s .policy) ≡ Known f) where
     pub setup-large : limit < cap → settingUp s cap ≡ unready 3
     unfolding settingUp
     setup-large h = simp (known, lt-ltb _ _ h)
@@ -98,7 +98,7 @@ module _ (s : Settings) (cap : ℕ) where
       unfolding settingUp
       setup-short h = simp (known, le-ltb _ _ within, ← is, lt-ltb _ _ h)
 
-      pub setup-ready : start ≤ cap → settingUp s cap ≡ ready (record { cap = cap; reserved = s .reserved; «data_offset» = start; unify = s .unify; «read_only» = s .«read_only»; freelist = f }) (freshHeader start (s .«min_segment_size»))
+      pub setup-ready : start ≤ cap → settingUp s cap ≡ ready (record { cap = cap; reserved = s .reserved; «data_offset» = start; unify = s .unify; «read_only» = s .«read_only»; policy = f }) (freshHeader start (s .«minimum_segment_size»))
       unfolding settingUp
       setup-ready h = simp (known, le-ltb _ _ within, ← is, le-ltb _ _ h)
 
@@ -110,14 +110,14 @@ ready-head settings cap s h = go (policyOf (settings .policy))
     start : ℕ
     start = dataOffset (settings .reserved) (settings .unify)
 
-    go : (p : Policy) → settingUpBy p settings cap ≡ ready s h → Head s h cap × (h .sentinel ≡ nodeWord endMark endMark)
+    go : (p : Named) → settingUpBy p settings cap ≡ ready s h → Head s h cap × (h .sentinel ≡ nodeWord endMark endMark)
     go Unknown e = absurd (false≢true cc)
     go (Known f) e =
         pick-either (λ (x : Began). x ≡ ready s h → Head s h cap × (h .sentinel ≡ nodeWord endMark endMark)) (ltb limit cap || ltb cap start) _ _
         (λ _ d. absurd (false≢true cc))
         (λ tests d.
         let shape : shapeOf settings cap f ≡ s = cc in
-        let header : freshHeader start (settings .«min_segment_size») ≡ h = cc in
+        let header : freshHeader start (settings .«minimum_segment_size») ≡ h = cc in
         let small = neither (ltb limit cap) (ltb cap start) tests in
         let high = ltb-false limit cap (small .0) in
         let low = ltb-false cap start (small .1) in

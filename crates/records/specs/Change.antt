@@ -6,19 +6,19 @@ use Rattle.records.specs.declared.Header.{Header}
 -- the top moved
 abbrev pub withTop : Header → ℕ → Header
 withTop h top =
-    record { sentinel = h .sentinel; allocated = top; «min_segment_size» = h .«min_segment_size»; discarded = h .discarded }
+    record { sentinel = h .sentinel; allocated = top; «minimum_segment_size» = h .«minimum_segment_size»; discarded = h .discarded }
 
 -- the list's first node, the size half being the end mark
 abbrev pub withFirst : Header → ℕ → Header
 withFirst h first =
-    record { sentinel = nodeWord endMark first; allocated = h .allocated; «min_segment_size» = h .«min_segment_size»; discarded = h .discarded }
+    record { sentinel = nodeWord endMark first; allocated = h .allocated; «minimum_segment_size» = h .«minimum_segment_size»; discarded = h .discarded }
 
 -- the minimum set
-abbrev pub withLeast : Header → ℕ → Header
-withLeast h least =
-    record { sentinel = h .sentinel; allocated = h .allocated; «min_segment_size» = least; discarded = h .discarded }
+abbrev pub withMinimum : Header → ℕ → Header
+withMinimum h least =
+    record { sentinel = h .sentinel; allocated = h .allocated; «minimum_segment_size» = least; discarded = h .discarded }
 
 -- 01: `discarded` stops at 4,294,967,295
 abbrev pub losing : Header → ℕ → Header
 losing h n =
-    record { sentinel = h .sentinel; allocated = h .allocated; «min_segment_size» = h .«min_segment_size»; discarded = min (h .discarded + n) 4294967295 }
+    record { sentinel = h .sentinel; allocated = h .allocated; «minimum_segment_size» = h .«minimum_segment_size»; discarded = min (h .discarded + n) 4294967295 }

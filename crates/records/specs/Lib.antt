@@ -1,5 +1,4 @@
 -- The definitions that the contracts of this crate cite.
-pub mod Pick
 pub mod Answer
 pub mod Setup
 pub mod Head

@@ -3,7 +3,7 @@ use Prim.Native.Nat.{ℕ, _+_}
 use mathlib.Core.List.{List, []}
 use lib.Dec.{leb}
 use lib.ListN.{length, take, drop}
-use Rattle.records.specs.Pick.{pick}
+use Rattle.words.specs.Pick.{pick}
 use Rattle.records.specs.declared.Shape.{Shape}
 use Rattle.records.specs.declared.Block.{Block}
 

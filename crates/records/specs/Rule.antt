@@ -3,7 +3,7 @@ use Prim.Native.Nat.{ℕ, _+_, _-_}
 use mathlib.Core.Bool.{_||_}
 use lib.Dec.{leb, ltb, eqb}
 use Rattle.words.specs.Round.{roundUp}
-use Rattle.records.specs.Pick.{pick}
+use Rattle.words.specs.Pick.{pick}
 use Rattle.records.specs.declared.Segment.{Segment}
 use Rattle.records.specs.declared.Segment.the-variants.{At, Refused}
 

@@ -5,13 +5,13 @@ use mathlib.Core.Bool.{Bool, false, _||_}
 use lib.Dec.{ltb, eqb}
 use Rattle.words.specs.Round.{roundUp}
 use Rattle.words.specs.Word.{nodeWord, endMark}
-use Rattle.records.specs.Pick.{pick}
+use Rattle.words.specs.Pick.{pick}
 use Rattle.records.specs.Answer.{Began, ready, unready}
 use Rattle.records.specs.declared.Order.the-variants.{Optimistic, Pessimistic}
-use Rattle.records.specs.declared.Freelist.{Freelist}
-use Rattle.records.specs.declared.Freelist.the-variants.{None, Ordered}
 use Rattle.records.specs.declared.Policy.{Policy}
-use Rattle.records.specs.declared.Policy.the-variants.{Known, Unknown}
+use Rattle.records.specs.declared.Policy.the-variants.{None, Ordered}
+use Rattle.records.specs.declared.Named.{Named}
+use Rattle.records.specs.declared.Named.the-variants.{Known, Unknown}
 use Rattle.records.specs.declared.Settings.{Settings}
 use Rattle.records.specs.declared.Shape.{Shape}
 use Rattle.records.specs.declared.Header.{Header}
@@ -31,15 +31,15 @@ pub record Offset (reserved : ℕ) (unify : Bool) (r : ℕ) : Type 0 where
   pub high : r ≤ reserved + 40
 
 -- the policies by their codes: none 0, optimistic 1, pessimistic 2
-unfoldable pub policyOf : ℕ → Policy
+unfoldable pub policyOf : ℕ → Named
 policyOf code = pick (eqb code 0) (Known None) (pick (eqb code 1) (Known (Ordered Optimistic)) (pick (eqb code 2) (Known (Ordered Pessimistic)) Unknown))
 
 -- 01: defaults: optimistic list, minimum segment size 20, reserved 0, unify off
 abbrev pub defaultSettings : Settings
 defaultSettings =
-    record { reserved = 0; unify = false; policy = 1; «min_segment_size» = 20; «read_only» = false }
+    record { reserved = 0; unify = false; policy = 1; «minimum_segment_size» = 20; «read_only» = false }
 
-abbrev pub shapeOf : Settings → ℕ → Freelist → Shape
+abbrev pub shapeOf : Settings → ℕ → Policy → Shape
 shapeOf s cap f =
     record {
       cap = cap;
@@ -47,20 +47,20 @@ shapeOf s cap f =
       «data_offset» = dataOffset (s .reserved) (s .unify);
       unify = s .unify;
       «read_only» = s .«read_only»;
-      freelist = f;
+      policy = f;
     }
 
 -- 01: fresh: allocated = data offset, discarded 0, list empty; an empty list's sentinel has the end mark in both halves
 abbrev pub freshHeader : ℕ → ℕ → Header
 freshHeader start least =
-    record { sentinel = nodeWord endMark endMark; allocated = start; «min_segment_size» = least; discarded = 0 }
+    record { sentinel = nodeWord endMark endMark; allocated = start; «minimum_segment_size» = least; discarded = 0 }
 
 -- 01: 2 is given for a policy code other than 0, 1, 2; then 3 for cap over the limit, or data offset > cap
-abbrev pub settingUpBy : Policy → Settings → ℕ → Began
+abbrev pub settingUpBy : Named → Settings → ℕ → Began
 settingUpBy Unknown s cap = unready 2
 settingUpBy (Known f) s cap =
     pick (ltb limit cap || ltb cap (dataOffset (s .reserved) (s .unify))) (unready 3)
-    (ready (shapeOf s cap f) (freshHeader (dataOffset (s .reserved) (s .unify)) (s .«min_segment_size»)))
+    (ready (shapeOf s cap f) (freshHeader (dataOffset (s .reserved) (s .unify)) (s .«minimum_segment_size»)))
 
 -- setup over a buffer of cap bytes
 unfoldable pub settingUp : Settings → ℕ → Began

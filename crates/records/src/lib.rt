@@ -8,7 +8,7 @@ ghost use Rattle.records.specs.Setup.{Offset, policyOf, defaultSettings,
 ghost use Rattle.records.specs.Answer.{began};
 ghost use Rattle.records.specs.Head.{headSound};
 ghost use Rattle.records.specs.Rule.{segmentOf};
-ghost use Rattle.records.specs.Change.{withTop, withFirst, withLeast, losing};
+ghost use Rattle.records.specs.Change.{withTop, withFirst, withMinimum, losing};
 ghost use Rattle.records.specs.Part.{partOf, usablePart, usablePlace, reservedPart};
 
 // The largest buffer, size and extra.
@@ -24,14 +24,14 @@ pub enum Order {
 }
 
 // The policy. What the two lists share is written once, over the order.
-pub enum Freelist {
+pub enum Policy {
     None,
     Ordered(Order),
 }
 
 // What a policy code names.
-pub enum Policy {
-    Known(Freelist),
+pub enum Named {
+    Known(Policy),
     Unknown,
 }
 
@@ -40,7 +40,7 @@ pub struct Settings {
     pub reserved: u32,
     pub unify: bool,
     pub policy: u8,
-    pub min_segment_size: u32,
+    pub minimum_segment_size: u32,
     pub read_only: bool,
 }
 
@@ -51,14 +51,14 @@ pub struct Shape {
     pub data_offset: u32,
     pub unify: bool,
     pub read_only: bool,
-    pub freelist: Freelist,
+    pub policy: Policy,
 }
 
 // What the calls change.
 pub struct Header {
     pub sentinel: u64,
     pub allocated: u32,
-    pub min_segment_size: u32,
+    pub minimum_segment_size: u32,
     pub discarded: u32,
 }
 
@@ -136,19 +136,19 @@ pub fn data_offset(reserved: u32, unify: bool) -> usize
 }
 
 // The policy that a code names.
-pub fn policy_of(code: u8) -> Policy
+pub fn policy_of(code: u8) -> Named
     ensures { λ r. ⌜ r ≡ policyOf code ⌝ }
 {
     if code == 0 {
-        return Policy::Known(Freelist::None);
+        return Named::Known(Policy::None);
     }
     if code == 1 {
-        return Policy::Known(Freelist::Ordered(Order::Optimistic));
+        return Named::Known(Policy::Ordered(Order::Optimistic));
     }
     if code == 2 {
-        return Policy::Known(Freelist::Ordered(Order::Pessimistic));
+        return Named::Known(Policy::Ordered(Order::Pessimistic));
     }
-    Policy::Unknown
+    Named::Unknown
 }
 
 // The settings of somebody who names none.
@@ -159,7 +159,7 @@ pub fn defaults() -> Settings
         reserved: 0,
         unify: false,
         policy: 1,
-        min_segment_size: 20,
+        minimum_segment_size: 20,
         read_only: false,
     }
 }
@@ -168,7 +168,7 @@ pub fn defaults() -> Settings
 pub fn setup(settings: Settings, buf: &[u8]) -> Begun
     ensures { λ r. ⌜ began r ≡ settingUp settings (length (now (buf .entry))) ⌝ }
 {
-    let Policy::Known(freelist) = policy_of(settings.policy) else {
+    let Named::Known(policy) = policy_of(settings.policy) else {
         return Begun::UnknownFreelist;
     };
     let cap = buf.len();
@@ -185,12 +185,12 @@ pub fn setup(settings: Settings, buf: &[u8]) -> Begun
         data_offset: start as u32,
         unify: settings.unify,
         read_only: settings.read_only,
-        freelist,
+        policy,
     };
     let header = Header {
         sentinel: 18446744073709551615,
         allocated: start as u32,
-        min_segment_size: settings.min_segment_size,
+        minimum_segment_size: settings.minimum_segment_size,
         discarded: 0,
     };
     Begun::Ready(Arena { shape, header })
@@ -219,8 +219,8 @@ pub fn head_sound(shape: Shape, header: Header, buf: &[u8]) -> bool
 }
 
 // The segment rule: the node that a range becomes.
-pub fn segment_of(min_segment_size: u32, offset: u32, size: u32) -> Segment
-    ensures { λ r. ⌜ r ≡ segmentOf «min_segment_size» offset size ⌝ }
+pub fn segment_of(minimum_segment_size: u32, offset: u32, size: u32) -> Segment
+    ensures { λ r. ⌜ r ≡ segmentOf «minimum_segment_size» offset size ⌝ }
 {
     if offset == 0 {
         return Segment::Refused;
@@ -234,7 +234,7 @@ pub fn segment_of(min_segment_size: u32, offset: u32, size: u32) -> Segment
         return Segment::Refused;
     }
     let rest = size as usize - padding - 8;
-    if rest < min_segment_size as usize {
+    if rest < minimum_segment_size as usize {
         return Segment::Refused;
     }
     Segment::At {
@@ -268,10 +268,10 @@ pub fn with_top(header: Header, top: u32) -> Header
 }
 
 pub fn with_minimum(header: Header, least: u32) -> Header
-    ensures { λ r. ⌜ r ≡ withLeast header least ⌝ }
+    ensures { λ r. ⌜ r ≡ withMinimum header least ⌝ }
 {
     let mut next = header;
-    next.min_segment_size = least;
+    next.minimum_segment_size = least;
     next
 }
 
@@ -314,9 +314,9 @@ pub fn discarded(header: Header) -> u32
 }
 
 pub fn minimum_segment_size(header: Header) -> u32
-    ensures { λ r. ⌜ r ≡ header .«min_segment_size» ⌝ }
+    ensures { λ r. ⌜ r ≡ header .«minimum_segment_size» ⌝ }
 {
-    header.min_segment_size
+    header.minimum_segment_size
 }
 
 // n bytes from at, none where they leave the buffer.

@@ -10,7 +10,7 @@ use borrow.Author.Tests.{eqb-false, not-true, leb-true}
 use lib.Dec.{eqb, leb}
 use Rattle.words.specs.Round.{roundUp}
 use Rattle.words.proofs.Rounding.{round-ge, round-lt}
-use Rattle.records.specs.Pick.{pick}
+use Rattle.words.specs.Pick.{pick}
 use Rattle.records.proofs.Facts.{both, fails, picked}
 use Rattle.records.specs.declared.Block.{Block}
 use Rattle.records.specs.declared.Request.{Request}

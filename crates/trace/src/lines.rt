@@ -69,7 +69,7 @@ fn setup_rest(text: &[u8], c: Cursor, cap: u32, reserved: u32) -> Line {
         reserved,
         unify: unify.value == 1,
         policy: policy.value as u8,
-        min_segment_size: min.value as u32,
+        minimum_segment_size: min.value as u32,
         read_only: false,
     };
     Line::Setup { cap, settings }

@@ -49,7 +49,7 @@ returns-2 c =
 abbrev began : tie.After-known-told2 → tie.Start
 began c = c .before .before .before .before .before .before .before .before
 
-rule : (c : tie.After-known-told2) → let a = began c .args in segmentOf (a .header .«min_segment_size») (a .offset) (a .size) ≡ At (c .before .segment .given .0 .0) (c .before .segment .given .0 .1 .0)
+rule : (c : tie.After-known-told2) → let a = began c .args in segmentOf (a .header .«minimum_segment_size») (a .offset) (a .size) ≡ At (c .before .segment .given .0 .0) (c .before .segment .given .0 .1 .0)
 rule c = sym (c .before .before .before .segment-of .ensures) ∙ c .before .segment .given .1
 
 inside : (c : tie.After-known-told2) → let n = length (now (began c .args .buf)) in (c .before .segment .given .0 .0 + 8 + c .before .segment .given .0 .1 .0 ≤ n) × (n < endMark)

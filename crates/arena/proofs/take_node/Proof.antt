@@ -1,4 +1,4 @@
--- `arena::take_node` meets its contract. `Left` says what holds once the node left the list; the two answers of the segment rule are those of `serve`.
+-- `arena::take_node` meets its contract. `NodeOut` says what holds once the node left the list; the two answers of the segment rule are those of `serve`.
 -- Assumes nothing.
 use mathlib.Core.Path.{sym, _∙_}
 use native.Mathlib.Omega.{arith}
@@ -8,7 +8,7 @@ use Rattle.freelist.specs.Sound.{free}
 use Rattle.freelist.proofs.Seeks.{next-in}
 use Rattle.freelist.proofs.Arenas.{sound-ends}
 use Rattle.arena.proofs.Lists.{free-held}
-use Rattle.arena.proofs.Serves.{Left, node-left, split-inside, split-small, serves-whole, serves-split}
+use Rattle.arena.proofs.Serves.{NodeOut, node-out, split-inside, split-small, serves-whole, serves-split}
 use Rattle.arena.proofs.take_node.Statement.{statement}
 use Rattle.arena.proofs.take_node.Tie as tie
 
@@ -20,11 +20,11 @@ abbrev began : tie.After-remove → tie.Start
 began c = read c .before .before .before .before
 
 left : (c : tie.After-remove) → let a = began c .args in
-    Left (a .header) (now (a .buf)) (free (a .shape) (a .header) (now (a .buf))) (a .request) (a .count) (a .spot .index) (a .spot .next) (read c .node-at .result .size)
+    NodeOut (a .header) (now (a .buf)) (free (a .shape) (a .header) (now (a .buf))) (a .request) (a .count) (a .spot .index) (a .spot .next) (read c .node-at .result .size)
     (read c .before .before .need-of .result) (c .remove .last .0) (c .remove .result)
 left c =
     let p = began c .pre in
-    node-left _ _ _ _ _ _ _ _ _ _ _ _ (p .0 .0) (p .1 .0 .0) (c .before .first-of .ensures) (p .0 .1) (read c .before .before .need-of .ensures .is) (p .1 .1)
+    node-out _ _ _ _ _ _ _ _ _ _ _ _ (p .0 .0) (p .1 .0 .0) (c .before .first-of .ensures) (p .0 .1) (read c .before .before .need-of .ensures .is) (p .1 .1)
     (read c .node-at .ensures .sized) (c .remove .ensures)
 
 need-of-requires : tie.Need-need-of-requires

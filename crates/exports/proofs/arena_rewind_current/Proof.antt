@@ -8,7 +8,7 @@ use Rattle.exports.proofs.arena_rewind_current.Statement.{statement}
 use Rattle.exports.proofs.arena_rewind_current.Tie as tie
 
 returns : tie.Need-returns
-returns c = crosses _ _ _ _ (c .before .before .before .before .before .shape-in .ensures) (c .before .before .before .load .ensures) (rw (toZ-ofZ {w = w64} (c .before .before .before .before .before .before .before .fits .d)) at (c .before .before .rewind .ensures)) (c .send .ensures)
+returns c = crosses _ _ _ _ (c .before .before .before .before .before .shape-in .ensures) (c .before .before .before .load .ensures) (rw (toZ-ofZ {w = w64} (c .before .before .before .before .before .before .before .fits .by)) at (c .before .before .rewind .ensures)) (c .send .ensures)
 
 pub arena-rewind-current-spec : {M : Type 1} → statement M
 arena-rewind-current-spec =

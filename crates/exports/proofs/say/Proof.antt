@@ -10,7 +10,7 @@ returns-2 : tie.Need-returns-2
 returns-2 c = simp (c .numbers2 .ensures, c .before .enum-told .given .1)
 
 returns-3 : tie.Need-returns-3
-returns-3 c = simp (c .numbers3 .ensures, c .before .before .before .answer2 .given .1, c .before .number .ensures)
+returns-3 c = simp (c .numbers3 .ensures, c .before .before .before .answer2 .given .1, c .before .byte-of .ensures)
 
 returns-4 : tie.Need-returns-4
 returns-4 c = simp (c .numbers4 .ensures, c .before .before .answer3 .given .1)
@@ -49,6 +49,7 @@ say-spec =
     (λ c κs. search needs)
     (λ c. search needs)
     (λ c κs. search needs)
+    (λ c. search needs)
     (λ c κs. search needs)
     (λ c. search needs)
     (λ c κs. search needs)

@@ -44,7 +44,7 @@ apart-run-requires : tie.Need-apart-run-requires
 apart-run-requires c κs =
     let e = c .before .before .before .before .before .before in
     let s = e .before .before .before .args .shape in
-    (omega (arith, head-facts _ _ _ (headed e)), walked-ranged _ _ (s .«data_offset») _ _ _ (s .freelist) (c .before .before .free-run .ensures))
+    (omega (arith, head-facts _ _ _ (headed e)), walked-ranged _ _ (s .«data_offset») _ _ _ (s .policy) (c .before .before .free-run .ensures))
 
 returns-4 : tie.Need-returns-4
 returns-4 c =

@@ -6,7 +6,7 @@ use native.Mathlib.Omega.{arith}
 use borrow.Author.Needs.{needs}
 use borrow.Author.Tests.{not-true, not-false, le-leb, lt-leb}
 use lib.Dec.{leb}
-use Rattle.records.specs.Pick.{pick}
+use Rattle.words.specs.Pick.{pick}
 use Rattle.requests.specs.Request.{wellFormed, topEnd}
 use Rattle.requests.proofs.Plans.{plain-formed}
 use Rattle.requests.proofs.top_end.Statement.{statement}
