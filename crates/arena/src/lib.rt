@@ -29,9 +29,6 @@ ghost use Rattle.arena.specs.Look.{endAtTop, Serves, Looked, handedOut};
 ghost use Rattle.arena.specs.Give.{belowTop, givingBack};
 ghost use Rattle.arena.specs.Rewind.{discarding, rewinding, setting, settingMinimum, addingDiscarded};
 
-// The bytes of a node before its data.
-const NODE_SIZE: u32 = 8;
-
 // What a search of the list comes to: the place of a node that serves, or the room that a refusal reports.
 enum Lookup {
     Hit(Spot),
@@ -99,7 +96,7 @@ fn search_list(
                 return Lookup::Miss(size);
             }
             Lookup::Hit(Spot {
-                prev: records::END_MARK as usize,
+                prev: words::END_MARK as usize,
                 next: first,
                 index: 0,
             })
@@ -120,7 +117,7 @@ fn hand_out(header: Header, buf: &mut [u8], p: usize, m: usize, request: Request
     requires { ⌜ (p + 8 + m ≤ length (now buf)) × (length (now buf) ≤ limit) ⌝ }
     ensures { λ r. ⌜ outcome r (now (buf .exit)) ≡ handedOut header (now (buf .entry)) p m request ⌝ }
 {
-    let start = p + NODE_SIZE as usize;
+    let start = p + words::NODE_SIZE;
     let end = start + requests::need_of(request);
     words::clear_range(buf, start, end);
     let block = requests::list_block(p, m, request);
@@ -150,7 +147,7 @@ fn take_node(
     let p = spot.next;
     let size = words::node_at(buf, p).size as usize;
     let first = freelist::remove(buf, records::first_of(header) as usize, count, spot);
-    let end = p + NODE_SIZE as usize + need;
+    let end = p + words::NODE_SIZE + need;
     let rest = records::segment_of(
         header.minimum_segment_size,
         end as u32,
@@ -163,7 +160,10 @@ fn take_node(
         }
         Segment::At { offset, size: left } => {
             let head = freelist::insert(buf, first, count - 1, order, offset, left);
-            let next = records::lose(records::with_first(header, head as u32), NODE_SIZE);
+            let next = records::lose(
+                records::with_first(header, head as u32),
+                words::NODE_SIZE as u32,
+            );
             hand_out(next, buf, p, need, request)
         }
     }
@@ -334,7 +334,7 @@ fn give_below(
     let linked = records::with_first(header, head as u32);
     Reply {
         answer: Answer::GivenBack(true),
-        header: records::lose(linked, 8),
+        header: records::lose(linked, words::NODE_SIZE as u32),
     }
 }
 
@@ -397,7 +397,7 @@ pub fn discard_freelist(shape: Shape, header: Header, buf: &[u8]) -> Reply
     };
     let first = records::first_of(header) as usize;
     let sum = freelist::sum_sizes(buf, first, count) as u32;
-    let emptied = records::with_first(header, records::END_MARK);
+    let emptied = records::with_first(header, words::END_MARK);
     Reply {
         answer: Answer::Sum(sum),
         header: records::lose(emptied, sum),

@@ -83,8 +83,8 @@ fn load(header: &[u32; 6]) -> Header
 fn store(header: &mut [u32; 6], next: Header)
     ensures { λ _. ⌜ now (header .exit) ≡ stored (now (header .entry)) next ⌝ }
 {
-    header[0] = (next.sentinel % 4294967296) as u32;
-    header[1] = (next.sentinel / 4294967296) as u32;
+    header[0] = words::next_half(next.sentinel);
+    header[1] = words::size_half(next.sentinel);
     header[2] = next.allocated;
     header[3] = next.minimum_segment_size;
     header[4] = next.discarded;

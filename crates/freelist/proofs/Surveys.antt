@@ -71,7 +71,10 @@ module _ (s : Shape) (h : Header) (l : List ℕ) where
     unfolding surveyed sound
     survey-mark e = rw (good, ne-eqb (sizeHalf (h .sentinel)) endMark e) refl
 
-    module _ (mark : sizeHalf (h .sentinel) ≡ endMark) (count stop : ℕ) (w : Walked l (firstOf h) (walkFrom (s .policy) (s .«data_offset») (h .allocated) l (firstOf h)) count stop) where
+    module _ (mark : sizeHalf (h .sentinel) ≡ endMark) (first : ℕ) (starts : first ≡ firstOf h) (count stop : ℕ) (told : Walked l first (walkFrom (s .policy) (s .«data_offset») (h .allocated) l first) count stop) where
+      w : Walked l (firstOf h) (walkFrom (s .policy) (s .«data_offset») (h .allocated) l (firstOf h)) count stop
+      w = rw starts at told
+
       -- a sound arena has its list walked to the end mark, past segments that are apart
       found : sound s h l ≡ true → (stop ≡ endMark) × Pairwise Apart (passed (wordAt l) count (firstOf h))
       found y =
@@ -89,15 +92,15 @@ module _ (s : Shape) (h : Header) (l : List ℕ) where
       pub survey-open : stop ≢ endMark → surveyed s h l ≡ Unsound
       survey-open e = not-sound (λ y. e (found y .0))
 
-      pub survey-shared : apartb (passed (wordAt l) count (firstOf h)) ≡ false → surveyed s h l ≡ Unsound
-      survey-shared e = not-sound (λ y. let z : true ≡ false = sym (apart-tested (passed (wordAt l) count (firstOf h)) (found y .1)) ∙ e in let t : _≡_ {A = ℕ} 0 1 = cc in absurd (omega arith))
+      pub survey-shared : apartb (passed (wordAt l) count first) ≡ false → surveyed s h l ≡ Unsound
+      survey-shared e = not-sound (λ y. let z : true ≡ false = sym (apart-tested (passed (wordAt l) count (firstOf h)) (found y .1)) ∙ rw starts at e in let t : _≡_ {A = ℕ} 0 1 = cc in absurd (omega arith))
 
-      pub survey-closed : stop ≡ endMark → apartb (passed (wordAt l) count (firstOf h)) ≡ true → surveyed s h l ≡ Sound count
+      pub survey-closed : stop ≡ endMark → apartb (passed (wordAt l) count first) ≡ true → surveyed s h l ≡ Sound count
       unfolding surveyed
       survey-closed e p =
           let k = head-facts s h (length l) good in
           let n = head-numbers s h l k in
-          let r = frees-sound s h l k mark (passed (wordAt l) count (firstOf h)) (walked-frees l (firstOf h) (s .«data_offset») (h .allocated) count stop (s .policy) (n .0) (n .1) (n .2) (n .3) w e (tested-apart (passed (wordAt l) count (firstOf h)) p)) in
+          let r = frees-sound s h l k mark (passed (wordAt l) count (firstOf h)) (walked-frees l (firstOf h) (s .«data_offset») (h .allocated) count stop (s .policy) (n .0) (n .1) (n .2) (n .3) w e (tested-apart (passed (wordAt l) count (firstOf h)) (rw starts at p))) in
           rw (r .0) (ap Sound (ap length (r .1) ∙ length-passed (wordAt l) count (firstOf h)))
 
   -- what a caller learns from the answer

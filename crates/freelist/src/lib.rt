@@ -20,13 +20,7 @@ ghost use Rattle.freelist.specs.Split.{rangedRun, walkFrom, apartb};
 ghost use Rattle.freelist.specs.Marks.{Free, Unset, Marked, Tells};
 
 // The end mark: where a list ends, and what stands before its first node.
-const END_MARK: usize = 4294967295;
-
-// 2 to the 32nd: a word is its size half times this, plus its next half.
-const HALF: u64 = 4294967296;
-
-// The bytes of a node before its data.
-const NODE_SIZE: usize = 8;
+const END_MARK: usize = words::END_MARK as usize;
 
 // The bytes of a cell, which has one mark, and the marks of a word.
 const CELL: usize = 8;
@@ -106,8 +100,8 @@ fn passes_test(test: Test, p: usize, size: usize) -> bool
             size: own,
         } => may_lead(order, offset, own, p, size),
         Test::Room(need) => need <= size,
-        Test::Meets { from, to } => share(p, p + NODE_SIZE + size, from, to),
-        Test::Above(top) => top < p + NODE_SIZE + size,
+        Test::Meets { from, to } => share(p, p + words::NODE_SIZE + size, from, to),
+        Test::Above(top) => top < p + words::NODE_SIZE + size,
     }
 }
 
@@ -157,17 +151,17 @@ fn node_ok(buf: &[u8], p: usize, start: usize, top: usize) -> bool
     if p < start {
         return false;
     }
-    if top < NODE_SIZE {
+    if top < words::NODE_SIZE {
         return false;
     }
-    if top - NODE_SIZE < p {
+    if top - words::NODE_SIZE < p {
         return false;
     }
     let size = words::node_at(buf, p).size as usize;
     if size == 0 {
         return false;
     }
-    if top - NODE_SIZE - p < size {
+    if top - words::NODE_SIZE - p < size {
         return false;
     }
     true
@@ -238,7 +232,7 @@ fn apart_pairs(buf: &[u8], head: usize, count: usize) -> bool
     let mut left = count;
     while 0 < left {
         let node = words::node_at(buf, p);
-        let end = p + NODE_SIZE + node.size as usize;
+        let end = p + words::NODE_SIZE + node.size as usize;
         let next = node.next as usize;
         if any_meets(buf, next, left - 1, p, end) {
             return false;
@@ -308,7 +302,7 @@ fn claim_run(buf: &[u8], head: usize, count: usize, base: usize, marks: &mut [u6
     let mut left = count;
     while 0 < left {
         let node = words::node_at(buf, p);
-        let end = p + NODE_SIZE + node.size as usize;
+        let end = p + words::NODE_SIZE + node.size as usize;
         let a = mark_of(base, room, p / CELL);
         let b = mark_of(base, room, (end + 7) / CELL);
         if !claim(marks, a, b) {
@@ -383,12 +377,11 @@ pub fn survey(shape: Shape, header: Header, buf: &[u8]) -> Finding
     if !records::head_sound(shape, header, buf) {
         return Finding::Unsound;
     }
-    let sentinel = header.sentinel;
-    if sentinel / HALF != END_MARK as u64 {
+    if words::size_half(header.sentinel) != words::END_MARK {
         return Finding::Unsound;
     }
     let policy = shape.policy;
-    let head = (sentinel % HALF) as usize;
+    let head = records::first_of(header) as usize;
     let top = header.allocated as usize;
     let run = free_run(buf, head, shape.data_offset as usize, top, policy);
     if run.stop != END_MARK {

@@ -14,8 +14,8 @@ ghost use Rattle.records.specs.Part.{partOf, usablePart, usablePlace, re
 // The largest buffer, size and extra.
 pub const LIMIT: u32 = 1073741824;
 
-// The end mark of the free list, in either half of a word.
-pub const END_MARK: u32 = 4294967295;
+// Where the count of discarded bytes stops.
+const MOST_DISCARDED: u32 = 4294967295;
 
 // How a free list is sorted: sizes never rise along an optimistic list and never fall along a pessimistic one.
 pub enum Order {
@@ -172,7 +172,7 @@ pub fn setup(settings: Settings, buf: &[u8]) -> Begun
         return Begun::UnknownFreelist;
     };
     let cap = buf.len();
-    if 1073741824 < cap {
+    if (LIMIT as usize) < cap {
         return Begun::BadSetup;
     }
     let start = data_offset(settings.reserved, settings.unify);
@@ -188,7 +188,7 @@ pub fn setup(settings: Settings, buf: &[u8]) -> Begun
         policy,
     };
     let header = Header {
-        sentinel: 18446744073709551615,
+        sentinel: words::EMPTY,
         allocated: start as u32,
         minimum_segment_size: settings.minimum_segment_size,
         discarded: 0,
@@ -230,10 +230,10 @@ pub fn segment_of(minimum_segment_size: u32, offset: u32, size: u32) -> Segment
     }
     let node = words::align8(offset as usize);
     let padding = node - offset as usize;
-    if size as usize <= padding + 8 {
+    if size as usize <= padding + words::NODE_SIZE {
         return Segment::Refused;
     }
-    let rest = size as usize - padding - 8;
+    let rest = size as usize - padding - words::NODE_SIZE;
     if rest < minimum_segment_size as usize {
         return Segment::Refused;
     }
@@ -247,7 +247,7 @@ pub fn segment_of(minimum_segment_size: u32, offset: u32, size: u32) -> Segment
 pub fn first_of(header: Header) -> u32
     ensures { λ r. ⌜ r ≡ nextHalf (header .sentinel) ⌝ }
 {
-    (header.sentinel % 4294967296) as u32
+    words::next_half(header.sentinel)
 }
 
 // The header with one field changed: the list's first node, the top, the minimum.
@@ -255,7 +255,7 @@ pub fn with_first(header: Header, first: u32) -> Header
     ensures { λ r. ⌜ r ≡ withFirst header first ⌝ }
 {
     let mut next = header;
-    next.sentinel = words::node_word(END_MARK, first);
+    next.sentinel = words::node_word(words::END_MARK, first);
     next
 }
 
@@ -281,11 +281,11 @@ pub fn lose(header: Header, n: u32) -> Header
 {
     let sum = header.discarded as usize + n as usize;
     let mut next = header;
-    if sum < 4294967295 {
+    if sum < MOST_DISCARDED as usize {
         next.discarded = sum as u32;
         return next;
     }
-    next.discarded = 4294967295;
+    next.discarded = MOST_DISCARDED;
     next
 }
 

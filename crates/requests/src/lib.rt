@@ -168,7 +168,7 @@ pub fn list_block(p: usize, m: usize, request: Request) -> Block
         Request::Bytes(n) => Block {
             memory_offset: p as u32,
             memory_size: m as u32,
-            usable_offset: (p + 8) as u32,
+            usable_offset: (p + words::NODE_SIZE) as u32,
             usable_size: n,
         },
         Request::Typed { size, align } => Block {

@@ -5,7 +5,6 @@ use records::Reply;
 use records::Request;
 use records::Shape;
 ghost use mathlib.Core.Path.{_≡_};
-ghost use lib.ListN.{length, replicate};
 ghost use Rattle.records.specs.Answer.{outcome};
 ghost use Rattle.arena.specs.Take.{taking};
 ghost use Rattle.trace.specs.Made.{made, filled};
@@ -46,16 +45,6 @@ pub fn make(shape: Shape, header: Header, buf: &mut [u8], call: Call) -> Reply
     }
 }
 
-fn fill_all(part: &mut [u8], byte: u8)
-    ensures { λ _. ⌜ now (part .exit) ≡ replicate (length (now (part .entry))) byte ⌝ }
-{
-    let mut i: usize = 0;
-    while i < part.len() {
-        part[i] = byte;
-        i += 1;
-    }
-}
-
 // A caller's write: n bytes from `offset` become `byte`, none where they leave the buffer.
 pub fn fill(buf: &mut [u8], offset: usize, n: usize, byte: u8)
     ensures { λ _. ⌜ now (buf .exit) ≡ filled (now (buf .entry)) offset n byte ⌝ }
@@ -66,5 +55,5 @@ pub fn fill(buf: &mut [u8], offset: usize, n: usize, byte: u8)
     if buf.len() - offset < n {
         return;
     }
-    fill_all(&mut buf[offset..offset + n], byte);
+    words::fill(&mut buf[offset..offset + n], byte);
 }

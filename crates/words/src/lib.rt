@@ -6,7 +6,19 @@ ghost use mathlib.Core.Bool.{true};
 ghost use lib.ListN.{length, replicate};
 ghost use Rattle.words.specs.Align.{goodAlign};
 ghost use Rattle.words.specs.Round.{Rounded};
-ghost use Rattle.words.specs.Word.{valueOf, digits, putWord, zeroed, nodeWord, NodeOf, wordAt};
+ghost use Rattle.words.specs.Word.{valueOf, digits, putWord, zeroed, nodeWord, sizeHalf, nextHalf, NodeOf, wordAt};
+
+// The bytes of a node, which is one word: they stand before its data.
+pub const NODE_SIZE: usize = 8;
+
+// 2 to the 32nd: a word is its size half times this, plus its next half.
+const HALF: u64 = 4294967296;
+
+// The end mark, in either half of a word.
+pub const END_MARK: u32 = 4294967295;
+
+// The word of an empty list: the end mark in both halves.
+pub const EMPTY: u64 = END_MARK as u64 * HALF + END_MARK as u64;
 
 // x rounded up to a multiple of 8.
 pub fn align8(x: usize) -> usize
@@ -72,14 +84,27 @@ pub fn node_at(buf: &[u8], p: usize) -> Node
     requires { ⌜ p + 8 ≤ length (now buf) ⌝ }
     ensures { λ r. ⌜ NodeOf (wordAt (now (buf .entry)) p) (r .size) (r .next) ⌝ }
 {
-    read_node(&buf[p..p + 8])
+    read_node(&buf[p..p + NODE_SIZE])
 }
 
 // The word of two halves.
 pub fn node_word(size: u32, next: u32) -> u64
     ensures { λ r. ⌜ r ≡ nodeWord size next ⌝ }
 {
-    size as u64 * 4294967296 + next as u64
+    size as u64 * HALF + next as u64
+}
+
+// The halves of a word.
+pub fn size_half(w: u64) -> u32
+    ensures { λ r. ⌜ r ≡ sizeHalf w ⌝ }
+{
+    (w / HALF) as u32
+}
+
+pub fn next_half(w: u64) -> u32
+    ensures { λ r. ⌜ r ≡ nextHalf w ⌝ }
+{
+    (w % HALF) as u32
 }
 
 // Writes the word w into eight bytes, the lowest first.
@@ -102,16 +127,16 @@ pub fn put_word(buf: &mut [u8], p: usize, w: u64)
     requires { ⌜ p + 8 ≤ length (now buf) ⌝ }
     ensures { λ _. ⌜ now (buf .exit) ≡ putWord (now (buf .entry)) p w ⌝ }
 {
-    write_word(&mut buf[p..p + 8], w);
+    write_word(&mut buf[p..p + NODE_SIZE], w);
 }
 
-// Sets every byte to zero: a byte a turn, which the compiler makes one fill.
-fn clear(part: &mut [u8])
-    ensures { λ _. ⌜ now (part .exit) ≡ replicate (length (now (part .entry))) 0 ⌝ }
+// Sets every byte to the one given: a byte a turn, which the compiler makes one fill.
+pub fn fill(part: &mut [u8], byte: u8)
+    ensures { λ _. ⌜ now (part .exit) ≡ replicate (length (now (part .entry))) byte ⌝ }
 {
     let mut i: usize = 0;
     while i < part.len() {
-        part[i] = 0;
+        part[i] = byte;
         i += 1;
     }
 }
@@ -121,5 +146,5 @@ pub fn clear_range(buf: &mut [u8], a: usize, b: usize)
     requires { ⌜ (a ≤ b) × (b ≤ length (now buf)) ⌝ }
     ensures { λ _. ⌜ now (buf .exit) ≡ zeroed (now (buf .entry)) a b ⌝ }
 {
-    clear(&mut buf[a..b]);
+    fill(&mut buf[a..b], 0);
 }

@@ -77,6 +77,9 @@ cast-with-first c =
 with-first-requires : tie.Need-with-first-requires
 with-first-requires c κs = search needs
 
+cast-lose : tie.Need-cast-lose
+cast-lose c = search needs
+
 lose-requires-3 : tie.Need-lose-requires-3
 lose-requires-3 c κs = search needs
 
@@ -108,6 +111,7 @@ give-below-spec =
     insert-requires
     cast-with-first
     with-first-requires
+    cast-lose
     lose-requires-3
     same-length
     returns-3)

@@ -5,9 +5,6 @@ use Rattle.arena.proofs.Serves.{hands-out}
 use Rattle.arena.proofs.hand_out.Statement.{statement}
 use Rattle.arena.proofs.hand_out.Tie as tie
 
-cast-start : tie.Need-cast-start
-cast-start c = search needs
-
 add-start : tie.Need-add-start
 add-start c = search needs
 
@@ -35,7 +32,6 @@ pub hand-out-spec : {M : Type 1} → statement M
 hand-out-spec =
     tie.close
     (tie.spec
-    cast-start
     add-start
     need-of-requires
     add-end

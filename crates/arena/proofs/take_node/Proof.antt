@@ -50,9 +50,6 @@ remove-requires c κs =
     let k = free-held _ _ _ _ _ (p .0 .0) (c .first-of .ensures) (p .0 .1) in
     (k .ends, (rw (k .are) (p .1 .1 .stands), (rw (k .are) (k .run), omega (arith, p .1 .1 .inside, p .0 .1))))
 
-cast-end : tie.Need-cast-end
-cast-end c = search needs
-
 add-end : tie.Need-add-end
 add-end c = omega (arith, left (c .before .before))
 
@@ -107,6 +104,9 @@ cast-with-first-2 c =
 with-first-requires-2 : tie.Need-with-first-requires-2
 with-first-requires-2 c κs = search needs
 
+cast-lose : tie.Need-cast-lose
+cast-lose c = search needs
+
 lose-requires : tie.Need-lose-requires
 lose-requires c κs = search needs
 
@@ -151,7 +151,6 @@ take-node-spec =
     first-of-requires
     cast-remove
     remove-requires
-    cast-end
     add-end
     add-end-2
     cast-segment-of
@@ -167,6 +166,7 @@ take-node-spec =
     insert-requires
     cast-with-first-2
     with-first-requires-2
+    cast-lose
     lose-requires
     hand-out-requires-2
     same-length

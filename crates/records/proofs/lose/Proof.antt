@@ -12,6 +12,9 @@ cast-sum c = search needs
 add-sum : tie.Need-add-sum
 add-sum c = search needs
 
+cast-if1 : tie.Need-cast-if1
+cast-if1 c = search needs
+
 cast-next : tie.Need-cast-next
 cast-next c = search needs
 
@@ -22,4 +25,4 @@ returns-2 : tie.Need-returns-2
 returns-2 c = let high : 4294967295 ≤ c .before .before .args .header .discarded + c .before .before .args .n = omega arith in simp (min-eq-right high)
 
 pub lose-spec : {M : Type 1} → statement M
-lose-spec = tie.close (tie.spec cast-sum add-sum cast-next returns returns-2)
+lose-spec = tie.close (tie.spec cast-sum add-sum cast-if1 cast-next returns returns-2)

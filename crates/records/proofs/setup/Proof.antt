@@ -27,15 +27,6 @@ data-offset-requires c κs = search needs
 returns-3 : tie.Need-returns-3
 returns-3 c = sym (setup-short _ _ _ (sym (c .before .before .before .before .before .before .policy-of .ensures) ∙ c .before .before .before .before .policy .given .1) (omega arith) _ (c .before .data-offset .ensures .is) (omega arith))
 
-cast-t10 : tie.Need-cast-t10
-cast-t10 c = search needs
-
-cast-t11 : tie.Need-cast-t11
-cast-t11 c = search needs
-
-cast-t10-2 : tie.Need-cast-t10-2
-cast-t10-2 c = search needs
-
 returns-4 : tie.Need-returns-4
 returns-4 c = sym (setup-ready _ _ _ (sym (c .before .before .before .before .before .before .policy-of .ensures) ∙ c .before .before .before .before .policy .given .1) (omega arith) _ (c .before .data-offset .ensures .is) (omega arith))
 
@@ -47,10 +38,11 @@ setup-spec =
     enum-known-policy
     enum-told
     returns
+    (λ c. search needs)
     returns-2
     data-offset-requires
     returns-3
-    cast-t10
-    cast-t11
-    cast-t10-2
+    (λ c. search needs)
+    (λ c. search needs)
+    (λ c. search needs)
     returns-4)

@@ -36,26 +36,26 @@ sub-if2 c = search needs
 returns-2 : tie.Need-returns-2
 returns-2 c = fill-out _ _ _ _ (omega arith)
 
-add-fill-all : tie.Need-add-fill-all
-add-fill-all c = search needs
+add-fill : tie.Need-add-fill
+add-fill c = search needs
 
-sub-fill-all : tie.Need-sub-fill-all
-sub-fill-all c = search needs
+sub-fill : tie.Need-sub-fill
+sub-fill c = search needs
 
-part-fill-all-start : tie.Need-part-fill-all-start
-part-fill-all-start c = search needs
+part-fill-start : tie.Need-part-fill-start
+part-fill-start c = search needs
 
-part-fill-all-end : tie.Need-part-fill-all-end
-part-fill-all-end c = search needs
+part-fill-end : tie.Need-part-fill-end
+part-fill-end c = search needs
 
-fill-all-requires : tie.Need-fill-all-requires
-fill-all-requires c κs = search needs
+fill-requires : tie.Need-fill-requires
+fill-requires c κs = search needs
 
 same-length : tie.Need-same-length
 same-length c = search needs
 
 returns-3 : tie.Need-returns-3
-returns-3 c = fill-in _ _ _ _ _ (c .before .before .fill-all .ensures) (omega arith)
+returns-3 c = fill-in _ _ _ _ _ (c .before .before .fill .ensures) (omega arith)
 
 pub fill-spec : {M : Type 1} → statement M
 fill-spec =
@@ -64,10 +64,10 @@ fill-spec =
     returns
     sub-if2
     returns-2
-    add-fill-all
-    sub-fill-all
-    part-fill-all-start
-    part-fill-all-end
-    fill-all-requires
+    add-fill
+    sub-fill
+    part-fill-start
+    part-fill-end
+    fill-requires
     same-length
     returns-3)

@@ -1,6 +1,6 @@
--- `trace::calls::fill_all` meets its contract. The loop's invariant: the bytes passed are `byte` and the others are as they were. Assumes nothing.
+-- `words::fill` meets its contract: the invariant: the first i bytes are `byte`, and the others as they were. The measure is the number of bytes left. Assumes nothing.
 use denote.Ref.{now}
 use Rattle.words.proofs.Digits.{filled}
 use native.Mathlib.Omega.{arith}
 use borrow.Author.Needs.{needs}
 use Prim.Native.Nat.{ℕ, _-_, _≤_}
@@ -8,8 +8,8 @@ use mathlib.Core.Path.{_≡_, ap, _∙_}
 use mathlib.Core.List.{List, _++_}
 use borrow.Author.Fill.{fill-more}
 use lib.ListN.{length, drop, replicate, set, length-set}
-use Rattle.trace.proofs.calls.fill_all.Statement.{statement}
-use Rattle.trace.proofs.calls.fill_all.Tie as tie
+use Rattle.words.proofs.fill.Statement.{statement}
+use Rattle.words.proofs.fill.Tie as tie
 
 abbrev Inv-loop : tie.InvT-loop
 Inv-loop part₀ byte i₀ part i = (i ≤ length part₀) × (length part ≡ length part₀) × (part ≡ replicate i byte ++ drop i part₀)
@@ -42,6 +42,6 @@ returns : tie.Need-returns Inv-loop μ-loop
 returns c =
     filled (now (c .before .before .args .part)) _ (c .before .loop .i) (c .before .before .args .byte) (c .before .loop .inv .2) (omega arith) (omega arith)
 
-pub fill-all-spec : {M : Type 1} → statement M
-fill-all-spec =
+pub fill-spec : {M : Type 1} → statement M
+fill-spec =
     tie.close (tie.spec Inv-loop μ-loop loop-holds slice-write-part add-i loop-less loop-again same-length returns)
