@@ -7,9 +7,13 @@ use crate::raw;
 /// A granted block's record. Give back its memory range; read and write its usable range.
 #[derive(Debug, Clone, Copy, PartialEq, Eq)]
 pub struct Block {
+    /// Where the memory range starts.
     pub memory_offset: u32,
+    /// How many bytes go back. The usable range of bytes taken from the list may end up to eight bytes later.
     pub memory_size: u32,
+    /// Where the usable range starts: a multiple of the alignment asked for, counted from the buffer's start.
     pub usable_offset: u32,
+    /// How many bytes are for use.
     pub usable_size: u32,
 }
 
@@ -20,20 +24,32 @@ pub enum Refusal {
     ReadOnly,
     /// 2: the policy code is not 0, 1 or 2.
     UnknownFreelist,
-    /// 3: the buffer is over the limit, or shorter than the data offset.
+    /// 3: the buffer is over 1,073,741,824 bytes or shorter than the data offset; at the boundary, also a flag over 1.
     BadSetup,
-    /// 4: the head is unsound, or the arena is in a call that needs the list.
+    /// 4: the shape or the header is damaged; or, in a call that needs the list, the list is.
     Damaged,
-    /// 5: a size, extra or alignment is outside the numbers that are served.
+    /// 5: a size or extra over 1,073,741,824, an alignment that is no power of two from 1 to 4,096, or a size that is
+    /// no multiple of it.
     BadLayout,
     /// 6: a give-back reaches below the data offset or past the top.
-    OutOfBounds { offset: u32, allocated: u32 },
+    OutOfBounds {
+        /// The offset that was given.
+        offset: u32,
+        /// The top.
+        allocated: u32,
+    },
     /// 7: a give-back meets a free segment.
     Overlap,
     /// 8: a rewind would cut a free segment off.
     CutsFreeList,
     /// 9: neither the top nor the list can meet the request.
-    InsufficientSpace { requested: u32, available: u32 },
+    InsufficientSpace {
+        /// The bytes needed, with what aligning them may take. Under [`Policy::None`](crate::Policy) without that, but
+        /// for a typed request where it would end.
+        requested: u32,
+        /// The room above the top; on an optimistic list that is not empty, its largest segment's size.
+        available: u32,
+    },
 }
 
 impl Refusal {

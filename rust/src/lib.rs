@@ -12,6 +12,27 @@
 //! }
 //! # Ok::<(), arena::Refusal>(())
 //! ```
+//!
+//! # What callers owe
+//!
+//! A block is held from its grant until it is given back or a rewind puts the top below its end. Held blocks share no
+//! byte with each other or with free room, and a held block is always taken back, if from a fresh writable arena on
+//!
+//! - callers write only in the usable bytes of blocks that they hold,
+//! - and give back only blocks that they hold, each once, by the memory range that its [`Block`] names.
+//!
+//! Otherwise a call still ends with an answer and stays inside of the buffer, but leases may come to share bytes:
+//!
+//! - A block given back twice is refused while its room is free: with 7 where that lies in the list, with 6 where the
+//!   top has fallen. Room that was too small for the list, or any under [`Policy::None`], is counted as lost once more.
+//!   But once the room is granted anew, the second give-back frees the new holder's bytes.
+//! - A write outside of one's usable bytes changes another's lease or a node of the free list. Calls that need a list
+//!   that is no longer sound refuse with 4; one that was changed and still is sound may hand out room that is held.
+//!
+//! Alignment is counted from the buffer's start: a block's usable offset is a multiple of it. Its address is one only
+//! if the buffer's is.
+
+#![deny(missing_docs)]
 
 mod answers;
 pub mod raw;
@@ -19,16 +40,32 @@ pub mod raw;
 pub use answers::{Block, Refusal};
 pub use raw::{Header, Shape};
 
-/// The policy codes of the free list.
+use std::fmt;
+
+/// What becomes of room that is given back below the top.
 #[repr(u8)]
 #[derive(Debug, Clone, Copy, PartialEq, Eq)]
-pub enum Freelist {
-    /// Bytes given back below the top are lost.
+pub enum Policy {
+    /// It is lost.
     None = 0,
-    /// Largest segment first; a request takes the first.
+    /// It is listed, the largest segment first; a request takes the first.
     Optimistic = 1,
-    /// Smallest segment first; a request takes the first that fits.
+    /// It is listed, the smallest segment first; a request takes the first that fits.
     Pessimistic = 2,
+}
+
+impl TryFrom<u8> for Policy {
+    type Error = Refusal;
+
+    /// The policy of a code, as from a file.
+    fn try_from(code: u8) -> Result<Self, Refusal> {
+        match code {
+            0 => Ok(Policy::None),
+            1 => Ok(Policy::Optimistic),
+            2 => Ok(Policy::Pessimistic),
+            _ => Err(Refusal::UnknownFreelist),
+        }
+    }
 }
 
 /// What an arena is set up with.
@@ -38,9 +75,9 @@ pub struct Settings {
     pub reserved: u32,
     /// Whether the data starts where an image with its header in the buffer would have it.
     pub unify: bool,
-    /// A [`Freelist`] code; any other is refused.
-    pub freelist: u8,
-    /// A free segment's data is at least this long when it is made.
+    /// Whether and in which order room that is given back is listed.
+    pub policy: Policy,
+    /// A free segment's data is at least so many bytes when it is made; a shorter range is lost.
     pub minimum_segment_size: u32,
     /// Whether every call that would change the arena is refused.
     pub read_only: bool,
@@ -48,39 +85,36 @@ pub struct Settings {
 
 impl Default for Settings {
     fn default() -> Self {
-        Settings {
-            reserved: 0,
-            unify: false,
-            freelist: Freelist::Optimistic as u8,
-            minimum_segment_size: 20,
-            read_only: false,
-        }
+        Settings { reserved: 0, unify: false, policy: Policy::Optimistic, minimum_segment_size: 20, read_only: false }
     }
 }
 
-/// Where a rewind puts the top.
+/// Where a rewind puts the top, which is never below the data offset nor past the buffer's end.
 #[derive(Debug, Clone, Copy, PartialEq, Eq)]
 pub enum Position {
     /// At this offset.
     Start(u32),
-    /// This far from the present top.
+    /// This far from the present top. Where that is exactly 0, the top stays.
     Current(i64),
     /// This far below the buffer's end.
     End(u32),
 }
 
 /// An arena over a lent buffer.
-#[derive(Debug)]
 pub struct Arena<'a> {
     shape: Shape,
     header: Header,
     buf: &'a mut [u8],
 }
 
+// Setup writes all but the last number, or refuses and no arena is made of it.
+const UNSET: Header =
+    Header { sentinel_next: 0, sentinel_size: 0, allocated: 0, minimum_segment_size: 0, discarded: 0, unused: 0 };
+
 impl<'a> Arena<'a> {
     /// A fresh arena over the whole of `buf`. No byte is written.
     pub fn new(buf: &'a mut [u8], settings: Settings) -> Result<Self, Refusal> {
-        let mut header = [0; 6];
+        let mut header = UNSET;
         // Safety: header and buffer are valid for the call.
         let begun = unsafe {
             raw::arena_setup(
@@ -88,10 +122,10 @@ impl<'a> Arena<'a> {
                 buf.as_ptr(),
                 buf.len(),
                 settings.reserved,
-                settings.unify,
-                settings.freelist,
+                settings.unify.into(),
+                settings.policy as u8,
                 settings.minimum_segment_size,
-                settings.read_only,
+                settings.read_only.into(),
             )
         };
         match begun.code {
@@ -114,7 +148,8 @@ impl<'a> Arena<'a> {
         answers::taken(unsafe { raw::arena_alloc_bytes(shape, header, buf, len, size) })
     }
 
-    /// Room for a value of `size` bytes at a multiple of `align`; none for size 0.
+    /// Room for a value of `size` bytes at a multiple of `align`; none for size 0. Zeroed at the top; from the list,
+    /// the eight bytes of the old node word may remain at its start.
     #[inline]
     pub fn alloc(&mut self, size: u32, align: u32) -> Result<Option<Block>, Refusal> {
         let (shape, header, buf, len) = self.parts();
@@ -153,9 +188,9 @@ impl<'a> Arena<'a> {
         // Safety: header and buffer are valid for the call.
         answers::done(unsafe {
             match position {
-                Position::Start(x) => raw::arena_rewind_start(shape, header, buf, len, x),
-                Position::Current(d) => raw::arena_rewind_current(shape, header, buf, len, d),
-                Position::End(x) => raw::arena_rewind_end(shape, header, buf, len, x),
+                Position::Start(by) => raw::arena_rewind_start(shape, header, buf, len, by),
+                Position::Current(by) => raw::arena_rewind_current(shape, header, buf, len, by),
+                Position::End(by) => raw::arena_rewind_end(shape, header, buf, len, by),
             }
         })
     }
@@ -193,19 +228,19 @@ impl<'a> Arena<'a> {
     /// The top: no byte from here on is in use.
     #[inline]
     pub fn allocated(&self) -> u32 {
-        self.header[2]
+        self.header.allocated
     }
 
     /// The count of lost bytes.
     #[inline]
     pub fn discarded(&self) -> u32 {
-        self.header[4]
+        self.header.discarded
     }
 
     /// The least data size of segments made from now on.
     #[inline]
     pub fn minimum_segment_size(&self) -> u32 {
-        self.header[3]
+        self.header.minimum_segment_size
     }
 
     /// The usable bytes of a block; empty if its range leaves the buffer.
@@ -241,6 +276,28 @@ impl<'a> Arena<'a> {
     #[inline]
     fn parts(&mut self) -> (Shape, *mut Header, *mut u8, usize) {
         (self.shape, &mut self.header, self.buf.as_mut_ptr(), self.buf.len())
+    }
+}
+
+// What setup fixed and what the calls count, not the bytes of the buffer.
+impl fmt::Debug for Arena<'_> {
+    fn fmt(&self, f: &mut fmt::Formatter<'_>) -> fmt::Result {
+        let known = Policy::try_from(self.shape.policy);
+        let policy: &dyn fmt::Debug = match &known {
+            Ok(policy) => policy,
+            Err(_) => &self.shape.policy,
+        };
+        let first = self.header.sentinel_next;
+        f.debug_struct("Arena")
+            .field("cap", &self.shape.cap)
+            .field("data_offset", &self.shape.data_offset)
+            .field("policy", policy)
+            .field("allocated", &self.allocated())
+            .field("remaining", &self.remaining())
+            .field("minimum_segment_size", &self.minimum_segment_size())
+            .field("discarded", &self.discarded())
+            .field("first_node", &(first != raw::END_MARK).then_some(first))
+            .finish_non_exhaustive()
     }
 }
 

@@ -1,9 +1,10 @@
 //! The ledger of document 01 through the wrapper.
 
-use arena::{Arena, Block, Freelist, Position, Refusal, Settings};
+use arena::raw::END_MARK;
+use arena::{Arena, Block, Policy, Position, Refusal, Settings};
 
-fn settings(freelist: Freelist, reserved: u32) -> Settings {
-    Settings { reserved, freelist: freelist as u8, ..Settings::default() }
+fn settings(policy: Policy, reserved: u32) -> Settings {
+    Settings { reserved, policy, ..Settings::default() }
 }
 
 fn block(memory_offset: u32, memory_size: u32, usable_offset: u32, usable_size: u32) -> Result<Option<Block>, Refusal> {
@@ -11,8 +12,8 @@ fn block(memory_offset: u32, memory_size: u32, usable_offset: u32, usable_size: 
 }
 
 /// Start S: three blocks fill 200 bytes, and the first two are given back. Their bytes hold 7s.
-fn start(buf: &mut [u8; 200], freelist: Freelist) -> Arena<'_> {
-    let mut arena = Arena::new(buf, settings(freelist, 7)).unwrap();
+fn start(buf: &mut [u8; 200], policy: Policy) -> Arena<'_> {
+    let mut arena = Arena::new(buf, settings(policy, 7)).unwrap();
     for (size, at) in [(40, 8), (60, 48), (92, 108)] {
         let taken = arena.alloc_bytes(size);
         assert_eq!(taken, block(at, size, at, size));
@@ -28,8 +29,8 @@ fn start(buf: &mut [u8; 200], freelist: Freelist) -> Arena<'_> {
 /// The list's nodes with their data sizes, read from header and bytes.
 fn list(arena: &Arena) -> Vec<(u32, u32)> {
     let mut nodes = Vec::new();
-    let mut at = arena.header()[0];
-    while at != u32::MAX {
+    let mut at = arena.header().sentinel_next;
+    while at != END_MARK {
         let word = Block { memory_offset: at, memory_size: 8, usable_offset: at, usable_size: 8 };
         let word = u64::from_le_bytes(arena.bytes(&word).try_into().unwrap());
         nodes.push((at, (word >> 32) as u32));
@@ -40,26 +41,26 @@ fn list(arena: &Arena) -> Vec<(u32, u32)> {
 
 #[test]
 fn order() {
-    assert_eq!(list(&start(&mut [0; 200], Freelist::Pessimistic)), [(8, 32), (48, 52)]);
-    assert_eq!(list(&start(&mut [0; 200], Freelist::Optimistic)), [(48, 52), (8, 32)]);
+    assert_eq!(list(&start(&mut [0; 200], Policy::Pessimistic)), [(8, 32), (48, 52)]);
+    assert_eq!(list(&start(&mut [0; 200], Policy::Optimistic)), [(48, 52), (8, 32)]);
 }
 
 #[test]
 fn bytes_30_without_a_split() {
-    assert_eq!(start(&mut [0; 200], Freelist::Pessimistic).alloc_bytes(30), block(8, 32, 16, 30));
-    assert_eq!(start(&mut [0; 200], Freelist::Optimistic).alloc_bytes(30), block(48, 52, 56, 30));
+    assert_eq!(start(&mut [0; 200], Policy::Pessimistic).alloc_bytes(30), block(8, 32, 16, 30));
+    assert_eq!(start(&mut [0; 200], Policy::Optimistic).alloc_bytes(30), block(48, 52, 56, 30));
 }
 
 #[test]
 fn bytes_4() {
     let mut buf = [0; 200];
-    let mut arena = start(&mut buf, Freelist::Optimistic);
+    let mut arena = start(&mut buf, Policy::Optimistic);
     assert_eq!(arena.alloc_bytes(4), block(48, 4, 56, 4));
     assert_eq!(list(&arena), [(64, 36), (8, 32)]);
     assert_eq!(arena.discarded(), 24);
 
     let mut buf = [0; 200];
-    let mut arena = start(&mut buf, Freelist::Pessimistic);
+    let mut arena = start(&mut buf, Policy::Pessimistic);
     assert_eq!(arena.alloc_bytes(4), block(8, 32, 16, 4));
     assert_eq!(arena.discarded(), 16);
 }
@@ -67,14 +68,14 @@ fn bytes_4() {
 #[test]
 fn bytes_53_are_too_many() {
     let refused = |available| Err(Refusal::InsufficientSpace { requested: 53, available });
-    assert_eq!(start(&mut [0; 200], Freelist::Pessimistic).alloc_bytes(53), refused(0));
-    assert_eq!(start(&mut [0; 200], Freelist::Optimistic).alloc_bytes(53), refused(52));
+    assert_eq!(start(&mut [0; 200], Policy::Pessimistic).alloc_bytes(53), refused(0));
+    assert_eq!(start(&mut [0; 200], Policy::Optimistic).alloc_bytes(53), refused(52));
 }
 
 #[test]
 fn typed_from_the_list() {
     let mut buf = [0; 200];
-    let taken = start(&mut buf, Freelist::Pessimistic).alloc(8, 8);
+    let taken = start(&mut buf, Policy::Pessimistic).alloc(8, 8);
     assert_eq!(taken, block(8, 32, 8, 8));
     assert_eq!(buf[16..31], [0; 15]);
     assert_eq!(buf[31..48], [7; 17]);
@@ -83,7 +84,7 @@ fn typed_from_the_list() {
 #[test]
 fn give_back_at_the_top() {
     let mut buf = [0; 200];
-    let mut arena = start(&mut buf, Freelist::Pessimistic);
+    let mut arena = start(&mut buf, Policy::Pessimistic);
     assert_eq!(arena.dealloc(108, 92), Ok(true));
     assert_eq!(arena.allocated(), 108);
 }
@@ -98,7 +99,7 @@ fn segment_rule() {
         (20, 13, 33, Some((16, 22))),
     ] {
         let mut buf = [0; 200];
-        let mut arena = Arena::new(&mut buf, settings(Freelist::Pessimistic, 7)).unwrap();
+        let mut arena = Arena::new(&mut buf, settings(Policy::Pessimistic, 7)).unwrap();
         arena.set_minimum_segment_size(minimum).unwrap();
         arena.alloc_bytes(192).unwrap();
         assert_eq!(arena.dealloc(offset, size), Ok(kept.is_some()));
@@ -129,7 +130,7 @@ fn typed_at_the_top() {
 #[test]
 fn no_list() {
     let mut buf = [0; 20];
-    let mut arena = Arena::new(&mut buf, settings(Freelist::None, 12)).unwrap();
+    let mut arena = Arena::new(&mut buf, settings(Policy::None, 12)).unwrap();
     let refused = |requested| Err(Refusal::InsufficientSpace { requested, available: 7 });
     assert_eq!(arena.alloc(8, 8), refused(24));
     assert_eq!(arena.alloc_aligned_bytes(8, 8, 0), refused(8));
@@ -151,7 +152,7 @@ fn rewind() {
         (End(201), 8),
     ] {
         let mut buf = [0; 200];
-        let mut arena = Arena::new(&mut buf, settings(Freelist::Pessimistic, 7)).unwrap();
+        let mut arena = Arena::new(&mut buf, settings(Policy::Pessimistic, 7)).unwrap();
         arena.alloc_bytes(100).unwrap();
         assert_eq!(arena.rewind(position), Ok(()));
         assert_eq!(arena.allocated(), top, "{position:?}");
@@ -160,9 +161,9 @@ fn rewind() {
 
 #[test]
 fn list_is_kept_whole() {
-    for freelist in [Freelist::Optimistic, Freelist::Pessimistic] {
+    for policy in [Policy::Optimistic, Policy::Pessimistic] {
         let mut buf = [0; 200];
-        let mut arena = start(&mut buf, freelist);
+        let mut arena = start(&mut buf, policy);
         assert_eq!(arena.rewind(Position::End(150)), Err(Refusal::CutsFreeList));
         assert_eq!(arena.dealloc(8, 40), Err(Refusal::Overlap));
         assert_eq!(arena.discard_freelist(), Ok(84));

@@ -1,6 +1,7 @@
 //! Each refusal of document 01 comes back as a value and changes nothing.
 
-use arena::{Arena, Freelist, Position, Refusal, Settings};
+use arena::raw::{self, Header};
+use arena::{Arena, Policy, Position, Refusal, Settings, Shape};
 
 const LIMIT: u32 = 1_073_741_824;
 
@@ -42,11 +43,9 @@ fn read_only() {
 #[test]
 fn setup() {
     let setup = |len: usize, settings| Arena::new(&mut vec![0; len], settings).map(|arena| arena.allocated());
-    let policy = |freelist| Settings { freelist, ..Settings::default() };
-    assert_eq!(setup(100, policy(3)), Err(Refusal::UnknownFreelist));
-    assert_eq!(setup(0, policy(255)), Err(Refusal::UnknownFreelist));
-    assert_eq!(setup(0, policy(2)), Err(Refusal::BadSetup));
-    assert_eq!(setup(1, policy(2)), Ok(1));
+    let pessimistic = Settings { policy: Policy::Pessimistic, ..Settings::default() };
+    assert_eq!(setup(0, pessimistic), Err(Refusal::BadSetup));
+    assert_eq!(setup(1, pessimistic), Ok(1));
     let unify = Settings { unify: true, ..Settings::default() };
     assert_eq!(setup(31, unify), Err(Refusal::BadSetup));
     assert_eq!(setup(32, unify), Ok(32));
@@ -56,6 +55,36 @@ fn setup() {
     }
 }
 
+/// Setup at the boundary, where policy and flags are bytes: 2 for the policy comes first, then 3 for the flags.
+#[test]
+fn setup_with_any_bytes() {
+    let unset =
+        Header { sentinel_next: 7, sentinel_size: 7, allocated: 7, minimum_segment_size: 7, discarded: 7, unused: 7 };
+    let zeros = Shape { cap: 0, reserved: 0, data_offset: 0, unify: 0, read_only: 0, policy: 0 };
+    for (len, unify, policy, read_only, code) in [
+        (100, 0, 3, 0, 2),
+        (0, 2, 255, 2, 2),
+        (0, 0, 2, 0, 3),
+        (100, 2, 2, 0, 3),
+        (100, 0, 2, 2, 3),
+        (100, 255, 2, 1, 3),
+    ] {
+        let (buf, mut header) = (vec![0; len], unset);
+        // Safety: header and buffer are valid for the call.
+        let begun = unsafe { raw::arena_setup(&mut header, buf.as_ptr(), len, 0, unify, policy, 20, read_only) };
+        assert_eq!((begun.code, begun.shape, header), (code, zeros, unset), "{unify} {policy} {read_only}");
+    }
+}
+
+#[test]
+fn policies_by_their_codes() {
+    for policy in [Policy::None, Policy::Optimistic, Policy::Pessimistic] {
+        assert_eq!(Policy::try_from(policy as u8), Ok(policy));
+    }
+    assert_eq!(Policy::try_from(3), Err(Refusal::UnknownFreelist));
+    assert_eq!(Policy::try_from(255), Err(Refusal::UnknownFreelist));
+}
+
 #[test]
 fn damaged() {
     let mut buf = [0; 100];
@@ -63,16 +92,14 @@ fn damaged() {
     let (shape, header) = (arena.shape(), arena.header());
     assert!(arena.sound());
 
-    let mut high = header;
-    high[2] = 101;
+    let high = Header { allocated: 101, ..header };
     let mut arena = Arena::from_parts(shape, high, &mut buf);
     assert!(!arena.sound());
     assert_eq!(arena.remaining(), 0);
     refused(&mut arena, Refusal::Damaged, |a| a.alloc_bytes(1));
     refused(&mut arena, Refusal::Damaged, |a| a.set_minimum_segment_size(1));
 
-    let mut looped = header;
-    looped[0] = 8;
+    let looped = Header { sentinel_next: 8, ..header };
     buf[8..16].copy_from_slice(&(40u64 << 32 | 8).to_le_bytes());
     let mut arena = Arena::from_parts(shape, looped, &mut buf);
     assert!(!arena.sound());
@@ -83,20 +110,33 @@ fn damaged() {
     assert_eq!(arena.increase_discarded(1), Ok(()));
 }
 
-/// Damage to the policy is refused where document 01 has a damaged head: after 1 and 5.
+/// A shape whose policy or flags are no codes is refused where document 01 has a damaged head: after 1 and 5. Only a
+/// `read_only` of 1 is refused with 1.
 #[test]
-fn no_policy() {
+fn damaged_shape() {
     let mut buf = [0; 100];
     let arena = full(&mut buf);
-    let (shape, header) = (arena::Shape { freelist: 3, ..arena.shape() }, arena.header());
-    let mut arena = Arena::from_parts(shape, header, &mut buf);
-    assert!(!arena.sound());
-    refused(&mut arena, Refusal::BadLayout, |a| a.alloc(8, 3));
-    refused(&mut arena, Refusal::Damaged, |a| a.alloc_bytes(0));
-    refused(&mut arena, Refusal::Damaged, |a| a.dealloc(60, 8));
-    refused(&mut arena, Refusal::Damaged, |a| a.increase_discarded(1));
-    let mut arena = Arena::from_parts(arena::Shape { read_only: true, ..shape }, header, &mut buf);
-    refused(&mut arena, Refusal::ReadOnly, |a| a.alloc(8, 3));
+    let (shape, header) = (arena.shape(), arena.header());
+    for damaged in [
+        Shape { policy: 3, ..shape },
+        Shape { policy: 255, ..shape },
+        Shape { unify: 2, ..shape },
+        Shape { unify: 255, ..shape },
+        Shape { read_only: 2, ..shape },
+        Shape { read_only: 255, ..shape },
+    ] {
+        let mut arena = Arena::from_parts(damaged, header, &mut buf);
+        assert!(!arena.sound(), "{damaged:?}");
+        assert_eq!(arena.remaining(), 0);
+        refused(&mut arena, Refusal::BadLayout, |a| a.alloc(8, 3));
+        refused(&mut arena, Refusal::Damaged, |a| a.alloc_bytes(0));
+        refused(&mut arena, Refusal::Damaged, |a| a.dealloc(60, 8));
+        refused(&mut arena, Refusal::Damaged, |a| a.discard_freelist());
+        refused(&mut arena, Refusal::Damaged, |a| a.rewind(Position::End(0)));
+        refused(&mut arena, Refusal::Damaged, |a| a.increase_discarded(1));
+        let mut arena = Arena::from_parts(Shape { read_only: 1, ..damaged }, header, &mut buf);
+        refused(&mut arena, Refusal::ReadOnly, |a| a.alloc(8, 3));
+    }
 }
 
 #[test]
@@ -161,8 +201,8 @@ fn discarded_stops_at_its_end() {
 #[test]
 fn blocks_outside_the_buffer_are_empty() {
     let mut buf = [9; 20];
-    let mut arena =
-        Arena::new(&mut buf, Settings { reserved: 3, freelist: Freelist::None as u8, ..Settings::default() }).unwrap();
+    let settings = Settings { reserved: 3, policy: Policy::None, ..Settings::default() };
+    let mut arena = Arena::new(&mut buf, settings).unwrap();
     assert_eq!(arena.reserved_slice(), [9; 3]);
     let mut block = arena::Block { memory_offset: 0, memory_size: 0, usable_offset: 10, usable_size: 10 };
     assert_eq!(arena.bytes(&block).len(), 10);
@@ -180,4 +220,18 @@ fn numbers_and_words() {
     let numbers =
         [Refusal::ReadOnly, Refusal::UnknownFreelist, Refusal::BadSetup, Refusal::Damaged, Refusal::BadLayout];
     assert_eq!(numbers.map(Refusal::number), [1, 2, 3, 4, 5]);
+}
+
+#[test]
+fn debug_shows_the_counters() {
+    let mut buf = [0; 100];
+    let mut arena = full(&mut buf);
+    let empty = "Arena { cap: 100, data_offset: 1, policy: Optimistic, allocated: 100, remaining: 0, \
+                 minimum_segment_size: 20, discarded: 0, first_node: None, .. }";
+    assert_eq!(format!("{arena:?}"), empty);
+    arena.dealloc(3, 50).unwrap();
+    let shape = Shape { policy: 9, ..arena.shape() };
+    let listed = "Arena { cap: 100, data_offset: 1, policy: 9, allocated: 100, remaining: 0, \
+                  minimum_segment_size: 20, discarded: 8, first_node: Some(8), .. }";
+    assert_eq!(format!("{:?}", Arena::from_parts(shape, arena.header(), &mut [])), listed);
 }
