@@ -89,13 +89,13 @@ static void give_back(Arena *arena, ArenaAnswer lease) {
 static void show_counters(const Arena *arena) {
     printf("allocated %" PRIu32 ", remaining %" PRIu32 ", discarded %" PRIu32 ", minimum segment size %" PRIu32 "\n",
            arena->header.allocated, arena_remaining(arena->shape, &arena->header), arena->header.discarded,
-           arena->header.min_segment_size);
+           arena->header.minimum_segment_size);
     printf("sound: %s\n", arena_sound(arena->shape, &arena->header, arena->buf, arena->len) ? "yes" : "no");
 }
 
 int main(void) {
     Arena arena = {.buf = buffer, .len = sizeof buffer};
-    ArenaBegun begun = arena_setup(&arena.header, arena.buf, arena.len, 7, false, ARENA_OPTIMISTIC, 20, false);
+    ArenaBegun begun = arena_setup(&arena.header, arena.buf, arena.len, 7, 0, ARENA_OPTIMISTIC, 20, 0);
     if (begun.code != ARENA_DONE) {
         printf("setup refused, %" PRIu32 " %s\n", begun.code, name(begun.code));
         return 1;
