@@ -7,14 +7,15 @@ use arena::{Block, Position, Refusal};
 /// Document 01's bound on buffers, sizes and extras.
 pub const LIMIT: u32 = 1_073_741_824;
 
-/// An arena's setup. The buffer is as long as `cap`.
+/// An arena's setup, its flags and policy as the boundary takes them. The buffer is as long as `cap`.
 #[derive(Debug, Clone, Copy, PartialEq, Eq)]
 pub struct Setup {
     pub cap: u32,
     pub reserved: u32,
-    pub unify: bool,
+    pub unify: u8,
     pub policy: u8,
-    pub minimum: u32,
+    pub minimum_segment_size: u32,
+    pub read_only: u8,
 }
 
 /// A call on the arena, or a caller's write.
@@ -45,8 +46,8 @@ pub enum Answer {
 
 impl fmt::Display for Setup {
     fn fmt(&self, f: &mut fmt::Formatter<'_>) -> fmt::Result {
-        let Setup { cap, reserved, unify, policy, minimum } = *self;
-        write!(f, "cap={cap} reserved={reserved} unify={} policy={policy} min={minimum}", u8::from(unify))
+        let Setup { cap, reserved, unify, policy, minimum_segment_size, .. } = *self;
+        write!(f, "cap={cap} reserved={reserved} unify={unify} policy={policy} min={minimum_segment_size}")
     }
 }
 
@@ -58,9 +59,9 @@ impl fmt::Display for Call {
             Call::Aligned { size, align, extra } => write!(f, "op=aligned size={size} align={align} extra={extra}"),
             Call::Give { offset, size } => write!(f, "op=give offset={offset} size={size}"),
             Call::Discard => write!(f, "op=discard"),
-            Call::Rewind(Position::Start(x)) => write!(f, "op=rewind from=start by={x}"),
-            Call::Rewind(Position::Current(d)) => write!(f, "op=rewind from=current by={d}"),
-            Call::Rewind(Position::End(x)) => write!(f, "op=rewind from=end by={x}"),
+            Call::Rewind(Position::Start(by)) => write!(f, "op=rewind from=start by={by}"),
+            Call::Rewind(Position::Current(by)) => write!(f, "op=rewind from=current by={by}"),
+            Call::Rewind(Position::End(by)) => write!(f, "op=rewind from=end by={by}"),
             Call::Minimum { size } => write!(f, "op=min size={size}"),
             Call::Lost { size } => write!(f, "op=lost size={size}"),
             Call::Fill { offset, size, byte } => write!(f, "op=fill offset={offset} size={size} byte={byte}"),

@@ -20,7 +20,7 @@ pub struct Caps {
 /// A setup that both sides take, or now and then one byte too short for either.
 pub fn setup(random: &mut Random, caps: Caps) -> Setup {
     let reserved = random.within(0..=40);
-    let unify = random.one_in(2);
+    let unify = random.one_in(2).into();
     let start = rules::data_offset(reserved, unify) as u32;
     let room = match random.below(100) {
         0..2 => 0,
@@ -37,7 +37,8 @@ pub fn setup(random: &mut Random, caps: Caps) -> Setup {
     if random.one_in(500) {
         cap = start - 1;
     }
-    Setup { cap, reserved, unify, policy: random.pick(&[0, 1, 1, 2, 2]), minimum: minimum(random, cap) }
+    let policy = random.pick(&[0, 1, 1, 2, 2]);
+    Setup { cap, reserved, unify, policy, minimum_segment_size: minimum(random, cap), read_only: 0 }
 }
 
 fn minimum(random: &mut Random, cap: u32) -> u32 {
@@ -73,7 +74,7 @@ impl Chooser {
         let start = rules::data_offset(setup.reserved, setup.unify);
         let room = u64::from(setup.cap).saturating_sub(start) as u32;
         let weights = WEIGHTS.map(|weight| weight * random.pick(&[1, 2, 2, 2, 6]));
-        let kept = setup.minimum.saturating_add(8).saturating_mul(2);
+        let kept = setup.minimum_segment_size.saturating_add(8).saturating_mul(2);
         let usual = random.pick(&[12, 24, 60, 300, room / 8, kept, kept, kept]).min(room / 3).max(1);
         let filling = random.one_in(2);
         Chooser { random, held: Held::default(), given: None, weights, usual, filling }
@@ -112,7 +113,7 @@ impl Chooser {
     /// A call that makes room in an arena that is full and has nothing free.
     fn relieve(&mut self, view: &View) -> Call {
         let (start, top) = (view.shape.data_offset, view.counters.allocated);
-        if view.shape.freelist != 0 && self.held.blocks().len() > 1 {
+        if view.shape.policy != 0 && self.held.blocks().len() > 1 {
             return self.give_held();
         }
         let to = if self.random.one_in(2) { start } else { self.random.within(start..=top) };
@@ -138,7 +139,7 @@ impl Chooser {
             return room as u32;
         }
         let segment = if found.is_empty() { room } else { i64::from(random.pick(found).size) };
-        let kept = 8 + i64::from(view.counters.minimum.min(view.shape.cap));
+        let kept = 8 + i64::from(view.counters.minimum_segment_size.min(view.shape.cap));
         let first = if found.is_empty() || random.one_in(3) { 0 } else { 3 };
         let near = match first + random.below(if first == 0 { 24 } else { 9 }) {
             0..2 => room + random.jitter(2),

@@ -7,10 +7,10 @@ use arena::{Arena, Position, Refusal, Settings, Shape};
 
 use crate::calls::{self, Call, LIMIT, Setup};
 use crate::fence::{Fence, Flush};
-use crate::image::{Image, UNSET};
+use crate::image::{self, Image, UNSET};
 use crate::model::Model;
 use crate::random::Random;
-use crate::rules;
+use crate::rules::{self, END_MARK};
 use crate::sides::{self, Side};
 use crate::watch::Watch;
 
@@ -68,16 +68,15 @@ fn slot(code: u32) -> usize {
 }
 
 fn checked_setup(image: &mut Image, setup: &Setup, random: &mut Random) -> Result<u32, String> {
-    let read_only = random.one_in(20);
-    let begun = image.begin(setup, read_only, random.pick(&[Flush::Start, Flush::End]));
-    let Setup { cap, reserved, unify, policy, minimum } = *setup;
-    let start = rules::data_offset(reserved, unify) as u32;
+    let begun = image.begin(setup, random.pick(&[Flush::Start, Flush::End]));
+    let Setup { cap, reserved, unify, policy, minimum_segment_size, read_only } = *setup;
+    let data_offset = rules::data_offset(reserved, unify) as u32;
     let (code, shape, header) = match rules::setup_refusal(setup) {
         Some(refusal) => (refusal.number(), Image::empty_shape(), UNSET),
         None => (
             raw::DONE,
-            Shape { cap, reserved, data_offset: start, unify, read_only, freelist: policy },
-            [u32::MAX, u32::MAX, start, minimum, 0, UNSET[5]],
+            Shape { cap, reserved, data_offset, unify, read_only, policy },
+            image::header(END_MARK, data_offset, minimum_segment_size),
         ),
     };
     let zeroed = image.fence.buffer().iter().all(|byte| *byte == 0);
@@ -85,7 +84,7 @@ fn checked_setup(image: &mut Image, setup: &Setup, random: &mut Random) -> Resul
     if good && zeroed && image.fence.intact() {
         return Ok(code);
     }
-    Err(format!("{setup}: answered {begun:?} with header {:?}; owed code {code}", image.header))
+    Err(format!("{setup:?}: answered {begun:?} with header {:?}; owed code {code}", image.header))
 }
 
 /// Makes the call here and in the model.
@@ -96,7 +95,7 @@ fn checked_call(image: &mut Image, call: &Call) -> Result<Answer, String> {
     let wanted = on_the_boundary(model.call(call));
     let (header, bytes) = (image.header, image.fence.buffer().to_vec());
     let answer = image.call(call);
-    let fault = if !image.fence.intact() || image.header[5] != header[5] {
+    let fault = if !image.fence.intact() || image.header.unused != header.unused {
         "something outside of the arena has changed"
     } else if answer != wanted {
         "another answer is owed"
@@ -122,7 +121,7 @@ fn check_readers(image: &Image) -> Result<(), String> {
     if sound != rules::sound(&image.view()) {
         return Err(format!("the soundness check says {sound}:\n{}", image.shown()));
     }
-    if remaining != image.shape.cap.saturating_sub(image.header[2]) {
+    if remaining != image.shape.cap.saturating_sub(image.header.allocated) {
         return Err(format!("the remaining room is told as {remaining}:\n{}", image.shown()));
     }
     Ok(())

@@ -115,12 +115,12 @@ impl Pair {
 
 fn shape(setup: &Setup, data_offset: u32) -> Shape {
     let Setup { cap, reserved, unify, policy, .. } = *setup;
-    Shape { cap, reserved, data_offset, unify, read_only: false, freelist: policy }
+    Shape { cap, reserved, data_offset, unify, read_only: 0, policy }
 }
 
 fn shown(counters: &Counters) -> String {
-    let Counters { sentinel, allocated, minimum, discarded } = counters;
-    format!("sentinel={sentinel} top={allocated} min={minimum} lost={discarded}")
+    let Counters { sentinel, allocated, minimum_segment_size, discarded } = counters;
+    format!("sentinel={sentinel} top={allocated} min={minimum_segment_size} lost={discarded}")
 }
 
 /// Whether a caller's write leaves the data or meets a free segment.

@@ -63,9 +63,9 @@ pub fn run(make: Make) -> (Count, Option<Difference>) {
 fn setups(cap: u32) -> Vec<Setup> {
     let mut out = Vec::new();
     for policy in 0..=2 {
-        for (reserved, unify) in [(0, false), (7, false), (0, true)] {
-            for minimum in [1, 20] {
-                out.push(Setup { cap, reserved, unify, policy, minimum });
+        for (reserved, unify) in [(0, 0), (7, 0), (0, 1)] {
+            for minimum_segment_size in [1, 20] {
+                out.push(Setup { cap, reserved, unify, policy, minimum_segment_size, read_only: 0 });
             }
         }
     }
@@ -78,7 +78,7 @@ fn fresh() -> Vec<Letter> {
 
 /// Three blocks that fill the arena.
 fn full(setup: &Setup) -> Vec<Letter> {
-    let third = setup.cap / if setup.unify { 6 } else { 3 };
+    let third = setup.cap / if setup.unify == 1 { 6 } else { 3 };
     let bytes = Letter::Is(Call::Bytes { size: third });
     vec![bytes, bytes, Letter::Room(0)]
 }

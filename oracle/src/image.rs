@@ -10,20 +10,31 @@ use crate::choose::Chooser;
 use crate::fence::{Fence, Flush};
 use crate::model::write_list;
 use crate::random::Random;
-use crate::rules::{self, Segment, View};
+use crate::rules::{self, END_MARK, Segment, View};
 use crate::sides;
 
 /// Longest buffer of an image.
 const MOST: u32 = 4_096;
 
-/// Stands in a header that setup has not written.
-pub const UNSET: Header = [7; 6];
+/// A header that setup has not written.
+pub const UNSET: Header =
+    Header { sentinel_next: 7, sentinel_size: 7, allocated: 7, minimum_segment_size: 7, discarded: 7, unused: 7 };
+
+/// A header with nothing discarded, whose list starts here.
+pub fn header(sentinel_next: u32, allocated: u32, minimum_segment_size: u32) -> Header {
+    Header { sentinel_next, sentinel_size: END_MARK, allocated, minimum_segment_size, discarded: 0, ..UNSET }
+}
 
 /// An arena in parts; its buffer stands in the fence.
 pub struct Image {
     pub shape: Shape,
     pub header: Header,
     pub fence: Fence,
+}
+
+/// Any byte, mostly a small one.
+fn any_byte(random: &mut Random) -> u8 {
+    if random.one_in(4) { random.number() as u8 } else { random.below(4) as u8 }
 }
 
 /// Segments from the data offset up to the top, now and then one that leaves them, meets another, stands off a
@@ -58,7 +69,7 @@ impl Image {
 
     /// The shape of a refused setup.
     pub fn empty_shape() -> Shape {
-        Shape { cap: 0, reserved: 0, data_offset: 0, unify: false, read_only: false, freelist: 0 }
+        Shape { cap: 0, reserved: 0, data_offset: 0, unify: 0, read_only: 0, policy: 0 }
     }
 
     pub fn view(&self) -> View<'_> {
@@ -66,15 +77,15 @@ impl Image {
     }
 
     /// Sets up over a zeroed buffer. A refused setup leaves the unset header and a shape of zeros.
-    pub fn begin(&mut self, setup: &Setup, read_only: bool, flush: Flush) -> Begun {
+    pub fn begin(&mut self, setup: &Setup, flush: Flush) -> Begun {
         let buf = self.fence.place(setup.cap as usize, flush);
         buf.fill(0);
         self.header = UNSET;
-        let Setup { reserved, unify, policy, minimum, .. } = *setup;
+        let (header, buf, len) = (&mut self.header, buf.as_ptr(), buf.len());
+        let Setup { reserved, unify, policy, minimum_segment_size, read_only, .. } = *setup;
         // Safety: header and buffer are valid for the call.
-        let begun = unsafe {
-            raw::arena_setup(&mut self.header, buf.as_ptr(), buf.len(), reserved, unify, policy, minimum, read_only)
-        };
+        let begun =
+            unsafe { raw::arena_setup(header, buf, len, reserved, unify, policy, minimum_segment_size, read_only) };
         self.shape = begun.shape;
         begun
     }
@@ -94,9 +105,9 @@ impl Image {
                 }
                 Call::Give { offset, size } => raw::arena_dealloc(shape, header, buf, len, offset, size),
                 Call::Discard => raw::arena_discard_freelist(shape, header, buf, len),
-                Call::Rewind(Position::Start(x)) => raw::arena_rewind_start(shape, header, buf, len, x),
-                Call::Rewind(Position::Current(d)) => raw::arena_rewind_current(shape, header, buf, len, d),
-                Call::Rewind(Position::End(x)) => raw::arena_rewind_end(shape, header, buf, len, x),
+                Call::Rewind(Position::Start(by)) => raw::arena_rewind_start(shape, header, buf, len, by),
+                Call::Rewind(Position::Current(by)) => raw::arena_rewind_current(shape, header, buf, len, by),
+                Call::Rewind(Position::End(by)) => raw::arena_rewind_end(shape, header, buf, len, by),
                 Call::Minimum { size } => raw::arena_set_minimum_segment_size(shape, header, buf, len, size),
                 Call::Lost { size } => raw::arena_increase_discarded(shape, header, buf, len, size),
                 Call::Fill { .. } => unreachable!("a caller's write is no call"),
@@ -106,8 +117,9 @@ impl Image {
 
     /// Some calls of an honest caller, so that there is a list to damage.
     pub fn live(&mut self, random: &mut Random) {
-        let Shape { cap, reserved, unify, freelist: policy, .. } = self.shape;
-        let setup = Setup { cap, reserved, unify, policy, minimum: self.header[3] };
+        let Shape { cap, reserved, unify, read_only, policy, .. } = self.shape;
+        let minimum_segment_size = self.header.minimum_segment_size;
+        let setup = Setup { cap, reserved, unify, policy, minimum_segment_size, read_only };
         let mut chooser = Chooser::new(Random::new(random.number()), &setup);
         for _ in 0..random.below(60) {
             let view = self.view();
@@ -119,36 +131,45 @@ impl Image {
                 let mut arena = Arena::from_parts(self.shape, self.header, self.fence.buffer_mut());
                 let answer = sides::call_through(&mut arena, &call);
                 self.header = arena.header();
-                chooser.note(&call, &answer, self.header[2]);
+                chooser.note(&call, &answer, self.header.allocated);
             }
         }
     }
 
     /// Any header and bytes at all, or a head that is nearly good over any bytes.
     pub fn scramble(&mut self, random: &mut Random) {
-        self.header = std::array::from_fn(|_| random.number() as u32);
+        let mut number = || random.number() as u32;
+        self.header = Header {
+            sentinel_next: number(),
+            sentinel_size: number(),
+            allocated: number(),
+            minimum_segment_size: number(),
+            discarded: number(),
+            unused: number(),
+        };
         self.fence.buffer_mut().fill_with(|| random.number() as u8);
         if random.one_in(2) {
             let top = random.within(0..=self.shape.cap.saturating_add(1));
             let first = random.within(0..=self.shape.cap / 8) * 8;
-            self.header = [first, u32::MAX, top, 0, 0, 7];
+            self.header = header(first, top, 0);
         }
     }
 
     /// A list laid out by hand: sound, or with a fault at one of its bounds.
     pub fn forge(&mut self, random: &mut Random) {
-        let Shape { cap, data_offset, freelist, .. } = self.shape;
+        let Shape { cap, data_offset, policy, .. } = self.shape;
         let top = random.within(data_offset..=cap.max(data_offset));
         let mut nodes = forged(data_offset, top, random);
-        nodes.sort_by_key(|node| if freelist == 1 { u32::MAX - node.size } else { node.size });
+        nodes.sort_by_key(|node| if policy == 1 { u32::MAX - node.size } else { node.size });
         if nodes.len() > 1 && random.one_in(8) {
             let place = random.below(nodes.len() as u64 - 1) as usize;
             nodes.swap(place, place + 1);
         }
         nodes.retain(|node| node.offset as usize + 8 <= self.fence.buffer().len());
-        self.header = [write_list(&nodes, self.fence.buffer_mut()), u32::MAX, top, self.header[3], 0, 7];
+        let first = write_list(&nodes, self.fence.buffer_mut());
+        self.header = header(first, top, self.header.minimum_segment_size);
         if random.one_in(16) {
-            self.header[1] = random.pick(&[0, u32::MAX - 1]);
+            self.header.sentinel_size = random.pick(&[0, END_MARK - 1]);
         }
     }
 
@@ -157,7 +178,7 @@ impl Image {
         let number = self.any_number(random);
         match random.below(8) {
             0 => self.damage_shape(number, random),
-            1 => self.header[random.below(5) as usize] = number,
+            1 => self.damage_header(number, random),
             2 => self.shorten(random),
             3 => {
                 let at = random.within(0..=self.fence.buffer().len() as u32) as usize;
@@ -175,9 +196,20 @@ impl Image {
             0 => shape.cap = number,
             1 => shape.reserved = number,
             2 => shape.data_offset = number,
-            3 => shape.unify = !shape.unify,
-            4 => shape.read_only = !shape.read_only,
-            _ => shape.freelist = random.below(4) as u8,
+            3 => shape.unify = any_byte(random),
+            4 => shape.read_only = any_byte(random),
+            _ => shape.policy = any_byte(random),
+        }
+    }
+
+    fn damage_header(&mut self, number: u32, random: &mut Random) {
+        let header = &mut self.header;
+        match random.below(5) {
+            0 => header.sentinel_next = number,
+            1 => header.sentinel_size = number,
+            2 => header.allocated = number,
+            3 => header.minimum_segment_size = number,
+            _ => header.discarded = number,
         }
     }
 
@@ -209,7 +241,8 @@ impl Image {
         let found = rules::segments(&self.view()).unwrap_or_default();
         let node = if found.is_empty() { 8 } else { random.pick(&found).offset };
         let size = if found.is_empty() { 8 } else { random.pick(&found).size };
-        let near = [0, 1, 8, cap, cap / 2, data_offset, self.header[2], self.header[0], node, size, LIMIT, u32::MAX];
+        let Header { sentinel_next, allocated, .. } = self.header;
+        let near = [0, 1, 8, cap, cap / 2, data_offset, allocated, sentinel_next, node, size, LIMIT, u32::MAX];
         match random.below(4) {
             0 => random.number() as u32 >> random.below(32),
             1 => random.pick(&near).wrapping_add(random.jitter(9) as u32),
@@ -223,7 +256,7 @@ impl Image {
         let [size, more, other] = std::array::from_fn(|_| self.any_number(random));
         let align = if random.one_in(8) { other } else { 1 << random.below(14) };
         let size = if random.one_in(3) { size } else { size / align.max(1) * align };
-        let top = i64::from(self.header[2]);
+        let top = i64::from(self.header.allocated);
         match random.below(12) {
             0 => Call::Bytes { size },
             1 => Call::Typed { size, align },
@@ -243,7 +276,7 @@ impl Image {
     fn near_give(&self, random: &mut Random) -> Call {
         let found = rules::segments(&self.view()).unwrap_or_default();
         let (at, size) = match found.as_slice() {
-            [] => (random.within(self.shape.data_offset..=self.header[2]), 40),
+            [] => (random.within(self.shape.data_offset..=self.header.allocated), 40),
             nodes => {
                 let near = random.pick(nodes);
                 (random.pick(&[near.offset, near.end() as u32, near.offset.wrapping_sub(40)]), near.size)
@@ -259,7 +292,7 @@ impl Image {
     /// A setup with any numbers, mostly one that is taken.
     pub fn any_setup(&self, random: &mut Random) -> Setup {
         let reserved = if random.one_in(20) { self.any_number(random) } else { random.within(0..=40) };
-        let unify = random.one_in(2);
+        let unify = if random.one_in(20) { any_byte(random) } else { random.below(2) as u8 };
         let most = random.pick(&[0, 40, 100, 300, 300, 600, MOST]);
         let room = random.within(0..=most);
         let start = if random.one_in(8) { 0 } else { rules::data_offset(reserved, unify) };
@@ -267,8 +300,13 @@ impl Image {
             cap: (start + u64::from(room)).min(MOST.into()) as u32,
             reserved,
             unify,
-            policy: if random.one_in(20) { random.number() as u8 } else { random.below(3) as u8 },
-            minimum: random.pick(&[0, 0, 1, 8, 20, 20, 64, u32::MAX]),
+            policy: if random.one_in(20) { any_byte(random) } else { random.below(3) as u8 },
+            minimum_segment_size: random.pick(&[0, 0, 1, 8, 20, 20, 64, u32::MAX]),
+            read_only: match random.below(20) {
+                0 => 1,
+                1 => any_byte(random),
+                _ => 0,
+            },
         }
     }
 

@@ -9,8 +9,8 @@ use crate::drive::{Difference, Make, Outcome, Pair};
 pub fn run(make: Make) -> (u64, Option<Difference>) {
     let mut compared = 0;
     for policy in 0..=2 {
-        for unify in [false, true] {
-            let setup = Setup { cap: LIMIT, reserved: 0, unify, policy, minimum: 20 };
+        for unify in 0..=1 {
+            let setup = Setup { cap: LIMIT, reserved: 0, unify, policy, minimum_segment_size: 20, read_only: 0 };
             match one_setup(&setup, make) {
                 Ok(calls) => compared += calls,
                 Err(difference) => return (compared, Some(difference)),

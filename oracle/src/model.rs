@@ -39,7 +39,7 @@ impl Side for Model {
                 Answer::Moved
             }
             Call::Minimum { size } => {
-                self.counters.minimum = size;
+                self.counters.minimum_segment_size = size;
                 Answer::Done
             }
             Call::Lost { size } => {
@@ -82,7 +82,7 @@ impl Model {
             }
             return granted(top, want - top, at, want - at);
         }
-        let requested = match (self.shape.freelist, kind) {
+        let requested = match (self.shape.policy, kind) {
             (0, Kind::Bytes) => size,
             (0, Kind::Typed) => want,
             (0, Kind::Aligned) => size + extra,
@@ -90,7 +90,7 @@ impl Model {
         };
         let nodes = self.list();
         let first_fit = nodes.iter().position(|node| requested <= node.size);
-        let (place, available) = match (self.shape.freelist, nodes.first()) {
+        let (place, available) = match (self.shape.policy, nodes.first()) {
             (2, _) => (first_fit, cap - top),
             (1, Some(head)) => (first_fit.filter(|place| *place == 0), head.size),
             _ => (None, cap - top),
@@ -132,12 +132,12 @@ impl Model {
             self.counters.allocated = offset;
             return true;
         }
-        let kept = if self.shape.freelist == 0 { None } else { self.kept(offset, size) };
+        let kept = if self.shape.policy == 0 { None } else { self.kept(offset, size) };
         match kept {
             Some(segment) => self.insert(segment),
             None => self.lose(size),
         }
-        kept.is_some() || self.shape.freelist == 0
+        kept.is_some() || self.shape.policy == 0
     }
 
     fn discard(&mut self) -> Answer {
@@ -151,7 +151,7 @@ impl Model {
     fn kept(&self, offset: u32, size: u32) -> Option<Segment> {
         let at = round_up(offset.into(), 8) as u32;
         let spent = at - offset + 8;
-        let accepted = offset != 0 && size > spent && size - spent >= self.counters.minimum;
+        let accepted = offset != 0 && size > spent && size - spent >= self.counters.minimum_segment_size;
         accepted.then(|| Segment { offset: at, size: size - spent })
     }
 
@@ -159,7 +159,7 @@ impl Model {
     fn insert(&mut self, segment: Segment) {
         let mut nodes = self.list();
         let before =
-            |node: &Segment| if self.shape.freelist == 1 { node.size > segment.size } else { node.size < segment.size };
+            |node: &Segment| if self.shape.policy == 1 { node.size > segment.size } else { node.size < segment.size };
         let place = nodes.iter().take_while(|node| before(node)).count();
         nodes.insert(place, segment);
         self.link(&nodes);
@@ -210,10 +210,10 @@ mod tests {
         if let Some(refusal) = rules::setup_refusal(setup) {
             return Err(refusal);
         }
-        let Setup { cap, reserved, unify, policy, minimum } = *setup;
+        let Setup { cap, reserved, unify, policy, minimum_segment_size, read_only } = *setup;
         let data_offset = rules::data_offset(reserved, unify) as u32;
-        let shape = Shape { cap, reserved, data_offset, unify, read_only: false, freelist: policy };
-        let counters = Counters { sentinel: u64::MAX, allocated: data_offset, minimum, discarded: 0 };
+        let shape = Shape { cap, reserved, data_offset, unify, read_only, policy };
+        let counters = Counters { sentinel: u64::MAX, allocated: data_offset, minimum_segment_size, discarded: 0 };
         Ok(Box::new(Model { shape, counters, bytes: vec![0; cap as usize] }))
     }
 

@@ -116,7 +116,7 @@ impl Wrong {
     }
 
     fn relink(&mut self, nodes: &[Segment]) {
-        self.ours.header[0] = write_list(nodes, self.ours.buffer_mut());
+        self.ours.header.sentinel_next = write_list(nodes, self.ours.buffer_mut());
     }
 
     /// The nodes after the call, and the place of the one that it added.
@@ -173,7 +173,7 @@ fn first_give_back_only(wrong: &mut Wrong, before: &Before, call: &Call, answer:
     };
     if wrong.inserted {
         wrong.restore(before);
-        wrong.ours.header[4] = wrong.ours.header[4].saturating_add(*size);
+        wrong.ours.header.discarded = wrong.ours.header.discarded.saturating_add(*size);
     }
     wrong.inserted = true;
     answer
@@ -188,14 +188,14 @@ fn invented_sum(_: &mut Wrong, _: &Before, _: &Call, answer: Answer) -> Answer {
 
 fn forgotten_discarded(wrong: &mut Wrong, before: &Before, call: &Call, answer: Answer) -> Answer {
     if *call == Call::Discard {
-        wrong.ours.header[4] = before.header[4];
+        wrong.ours.header.discarded = before.header.discarded;
     }
     answer
 }
 
 fn invented_discarded(wrong: &mut Wrong, before: &Before, _: &Call, answer: Answer) -> Answer {
     if wrong.added(before).is_some() {
-        wrong.ours.header[4] = wrong.ours.header[4].wrapping_add(1);
+        wrong.ours.header.discarded = wrong.ours.header.discarded.wrapping_add(1);
     }
     answer
 }
@@ -203,7 +203,7 @@ fn invented_discarded(wrong: &mut Wrong, before: &Before, _: &Call, answer: Answ
 fn padding_discarded(wrong: &mut Wrong, before: &Before, call: &Call, answer: Answer) -> Answer {
     if let (Call::Give { offset, .. }, Some((nodes, place))) = (call, wrong.added(before)) {
         let padding = nodes[place].offset - offset;
-        wrong.ours.header[4] = wrong.ours.header[4].wrapping_add(padding);
+        wrong.ours.header.discarded = wrong.ours.header.discarded.wrapping_add(padding);
     }
     answer
 }
@@ -229,8 +229,8 @@ fn after_equals(wrong: &mut Wrong, before: &Before, _: &Call, answer: Answer) ->
 
 fn miss_reports_room(wrong: &mut Wrong, before: &Before, _: &Call, answer: Answer) -> Answer {
     match answer {
-        Answer::Refused(Refusal::InsufficientSpace { requested, .. }) if wrong.shape().freelist == 1 => {
-            let available = wrong.shape().cap - before.header[2];
+        Answer::Refused(Refusal::InsufficientSpace { requested, .. }) if wrong.shape().policy == 1 => {
+            let available = wrong.shape().cap - before.header.allocated;
             Answer::Refused(Refusal::InsufficientSpace { requested, available })
         }
         other => other,
@@ -239,17 +239,17 @@ fn miss_reports_room(wrong: &mut Wrong, before: &Before, _: &Call, answer: Answe
 
 fn rest_lowers_top(wrong: &mut Wrong, before: &Before, _: &Call, answer: Answer) -> Answer {
     if let Some((block, mut nodes, place)) = wrong.split(before, &answer)
-        && nodes.remove(place).end() == u64::from(wrong.ours.header[2])
+        && nodes.remove(place).end() == u64::from(wrong.ours.header.allocated)
     {
         wrong.relink(&nodes);
-        wrong.ours.header[2] = block.memory_offset + 8 + block.memory_size;
+        wrong.ours.header.allocated = block.memory_offset + 8 + block.memory_size;
     }
     answer
 }
 
 fn current_zero(wrong: &mut Wrong, before: &Before, call: &Call, answer: Answer) -> Answer {
-    if *call == Call::Rewind(Position::Current(-i64::from(before.header[2]))) && before.list.is_empty() {
-        wrong.ours.header[2] = wrong.shape().data_offset;
+    if *call == Call::Rewind(Position::Current(-i64::from(before.header.allocated))) && before.list.is_empty() {
+        wrong.ours.header.allocated = wrong.shape().data_offset;
     }
     answer
 }
@@ -264,7 +264,7 @@ fn not_zeroed(wrong: &mut Wrong, before: &Before, _: &Call, answer: Answer) -> A
 
 fn zeroes_aligned(wrong: &mut Wrong, before: &Before, call: &Call, answer: Answer) -> Answer {
     if let (Call::Aligned { .. }, Answer::Granted(block)) = (call, answer)
-        && block.memory_offset == before.header[2]
+        && block.memory_offset == before.header.allocated
     {
         wrong.ours.buffer_mut()[block.usable_offset as usize..][..block.usable_size as usize].fill(0);
     }
@@ -273,7 +273,7 @@ fn zeroes_aligned(wrong: &mut Wrong, before: &Before, call: &Call, answer: Answe
 
 fn zeroes_node_word(wrong: &mut Wrong, before: &Before, call: &Call, answer: Answer) -> Answer {
     if let (Call::Typed { .. }, Answer::Granted(block)) = (call, answer)
-        && block.memory_offset != before.header[2]
+        && block.memory_offset != before.header.allocated
     {
         wrong.ours.buffer_mut()[block.memory_offset as usize..][..8].fill(0);
     }
@@ -285,8 +285,8 @@ fn reports_want(wrong: &mut Wrong, before: &Before, call: &Call, answer: Answer)
         return answer;
     };
     match answer {
-        Answer::Refused(Refusal::InsufficientSpace { available, .. }) if wrong.shape().freelist == 0 && size > 0 => {
-            let requested = before.header[2].next_multiple_of(align) + size + extra;
+        Answer::Refused(Refusal::InsufficientSpace { available, .. }) if wrong.shape().policy == 0 && size > 0 => {
+            let requested = before.header.allocated.next_multiple_of(align) + size + extra;
             Answer::Refused(Refusal::InsufficientSpace { requested, available })
         }
         other => other,
@@ -298,7 +298,7 @@ fn exact_need_refused(wrong: &mut Wrong, before: &Before, call: &Call, answer: A
         return answer;
     };
     if before.list.contains(&Segment { offset: block.memory_offset, size }) {
-        let available = wrong.shape().cap - before.header[2];
+        let available = wrong.shape().cap - before.header.allocated;
         wrong.restore(before);
         return Answer::Refused(Refusal::InsufficientSpace { requested: size, available });
     }
@@ -327,7 +327,7 @@ fn exact_fill_refused(wrong: &mut Wrong, before: &Before, call: &Call, answer: A
     let (Call::Bytes { size }, Answer::Granted(block)) = (*call, answer) else {
         return answer;
     };
-    if block.memory_offset == before.header[2] && wrong.ours.header[2] == wrong.shape().cap {
+    if block.memory_offset == before.header.allocated && wrong.ours.header.allocated == wrong.shape().cap {
         wrong.restore(before);
         return Answer::Refused(Refusal::InsufficientSpace { requested: size, available: size });
     }
@@ -355,7 +355,7 @@ fn overlap_passed(_: &mut Wrong, _: &Before, _: &Call, answer: Answer) -> Answer
 
 fn refusal_changes(wrong: &mut Wrong, _: &Before, _: &Call, answer: Answer) -> Answer {
     if let Answer::Refused(_) = answer {
-        wrong.ours.header[4] = wrong.ours.header[4].wrapping_add(1);
+        wrong.ours.header.discarded = wrong.ours.header.discarded.wrapping_add(1);
     }
     answer
 }

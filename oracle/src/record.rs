@@ -42,7 +42,7 @@ pub fn text(calls: u64, seed: u64) -> (String, u64) {
 
 /// Document 01's start S, and each of its next calls, under one policy.
 fn ledger(policy: u8) -> Vec<Written> {
-    let setup = Setup { cap: 200, reserved: 7, unify: false, policy, minimum: 20 };
+    let setup = Setup { cap: 200, reserved: 7, unify: 0, policy, minimum_segment_size: 20, read_only: 0 };
     let start = [
         Call::Bytes { size: 40 },
         Call::Bytes { size: 60 },
@@ -106,7 +106,7 @@ impl Written {
         let theirs = unsafe { Theirs::create(setup) }?;
         let Setup { cap, reserved, unify, policy, .. } = *setup;
         let data_offset = theirs.data_offset();
-        let shape = Shape { cap, reserved, data_offset, unify, read_only: false, freelist: policy };
+        let shape = Shape { cap, reserved, data_offset, unify, read_only: 0, policy };
         Some(Written { shape, theirs, lines: format!("{setup}\n"), calls: 0, from_list: 0 })
     }
 

@@ -13,7 +13,7 @@ pub const END_MARK: u32 = u32::MAX;
 pub struct Counters {
     pub sentinel: u64,
     pub allocated: u32,
-    pub minimum: u32,
+    pub minimum_segment_size: u32,
     pub discarded: u32,
 }
 
@@ -48,22 +48,24 @@ pub fn round_up(x: u64, align: u64) -> u64 {
     x.div_ceil(align) * align
 }
 
-pub fn data_offset(reserved: u32, unify: bool) -> u64 {
-    if unify { round_up(reserved.into(), 8) + 32 } else { u64::from(reserved) + 1 }
+pub fn data_offset(reserved: u32, unify: u8) -> u64 {
+    if unify == 1 { round_up(reserved.into(), 8) + 32 } else { u64::from(reserved) + 1 }
 }
 
-/// Refusals 2 and 3.
+/// Refusals 2 and 3. A flag is 0 or 1.
 pub fn setup_refusal(setup: &Setup) -> Option<Refusal> {
     if setup.policy > 2 {
         return Some(Refusal::UnknownFreelist);
     }
     let fits = setup.cap <= LIMIT && data_offset(setup.reserved, setup.unify) <= setup.cap.into();
-    (!fits).then_some(Refusal::BadSetup)
+    (setup.unify > 1 || setup.read_only > 1 || !fits).then_some(Refusal::BadSetup)
 }
 
 pub fn head_sound(view: &View) -> bool {
-    let Shape { cap, reserved, data_offset: start, unify, freelist, .. } = view.shape;
-    freelist <= 2
+    let Shape { cap, reserved, data_offset: start, unify, read_only, policy } = view.shape;
+    policy <= 2
+        && unify <= 1
+        && read_only <= 1
         && view.bytes.len() == cap as usize
         && cap <= LIMIT
         && u64::from(start) == data_offset(reserved, unify)
@@ -74,11 +76,11 @@ pub fn head_sound(view: &View) -> bool {
 /// The free segments in list order, or none where the arena is unsound.
 pub fn segments(view: &View) -> Option<Vec<Segment>> {
     let [size_half, next] = halves(view.counters.sentinel);
-    if !head_sound(view) || size_half != END_MARK || (view.shape.freelist == 0 && next != END_MARK) {
+    if !head_sound(view) || size_half != END_MARK || (view.shape.policy == 0 && next != END_MARK) {
         return None;
     }
     let found = walk(view, next)?;
-    (in_order(&found, view.shape.freelist) && apart(&found)).then_some(found)
+    (in_order(&found, view.shape.policy) && apart(&found)).then_some(found)
 }
 
 pub fn sound(view: &View) -> bool {
@@ -110,8 +112,8 @@ fn walk(view: &View, first: u32) -> Option<Vec<Segment>> {
     Some(found)
 }
 
-fn in_order(found: &[Segment], freelist: u8) -> bool {
-    found.windows(2).all(|pair| match freelist {
+fn in_order(found: &[Segment], policy: u8) -> bool {
+    found.windows(2).all(|pair| match policy {
         1 => pair[0].size >= pair[1].size,
         _ => pair[0].size <= pair[1].size,
     })
@@ -128,7 +130,7 @@ pub fn refusal(view: &View, call: &Call) -> Option<Refusal> {
     if let Call::Fill { .. } = call {
         return None;
     }
-    if view.shape.read_only {
+    if view.shape.read_only == 1 {
         return Some(Refusal::ReadOnly);
     }
     match *call {
@@ -189,12 +191,12 @@ pub fn new_top(view: &View, position: Position) -> u64 {
     let (low, cap) = (i128::from(view.shape.data_offset), i128::from(view.shape.cap));
     let allocated = i128::from(view.counters.allocated);
     let top = match position {
-        Position::Start(x) => i128::from(x).max(low).min(cap),
-        Position::Current(d) => match allocated + i128::from(d) {
+        Position::Start(by) => i128::from(by).max(low).min(cap),
+        Position::Current(by) => match allocated + i128::from(by) {
             0 => allocated,
             sum => sum.min(cap).max(low),
         },
-        Position::End(x) => (cap - i128::from(x)).max(low),
+        Position::End(by) => (cap - i128::from(by)).max(low),
     };
     top as u64
 }
@@ -211,8 +213,8 @@ pub fn rust_overflows(view: &View, found: &[Segment], call: &Call) -> bool {
         Call::Give { size, .. } => size.max(8).into(),
         Call::Discard => found.iter().map(|segment| u64::from(segment.size)).sum(),
         Call::Lost { size } => size.into(),
-        Call::Rewind(Position::Current(d)) => {
-            return i64::from(view.counters.allocated).checked_add(d).is_none();
+        Call::Rewind(Position::Current(by)) => {
+            return i64::from(view.counters.allocated).checked_add(by).is_none();
         }
         Call::Rewind(_) | Call::Minimum { .. } | Call::Fill { .. } => 0,
     };

@@ -1,6 +1,6 @@
 //! The two sides of the comparison behind one trait: the proved arena through its Rust wrapper, and the given Rust.
 
-use arena::{Arena, Block, Header, Position, Refusal, Settings, Shape};
+use arena::{Arena, Block, Header, Policy, Position, Refusal, Settings, Shape};
 use reference::{ArenaPosition, Reference, Taken};
 
 use crate::calls::{Answer, Call, Setup};
@@ -39,14 +39,14 @@ impl Ours {
         buf.fill(0);
         let settings = Settings {
             reserved: setup.reserved,
-            unify: setup.unify,
-            freelist: setup.policy,
-            minimum_segment_size: setup.minimum,
-            read_only: false,
+            unify: setup.unify == 1,
+            policy: Policy::try_from(setup.policy)?,
+            minimum_segment_size: setup.minimum_segment_size,
+            read_only: setup.read_only == 1,
         };
         let fresh = Arena::new(buf, settings)?;
         let (shape, mut header) = (fresh.shape(), fresh.header());
-        header[5] = UNUSED;
+        header.unused = UNUSED;
         let mut ours = Ours { shape, header, store };
         ours.buffer_mut()[..setup.reserved as usize].fill(RESERVED);
         Ok(ours)
@@ -64,8 +64,9 @@ impl Ours {
 
 /// A header's numbers.
 pub fn counters(header: &Header) -> Counters {
-    let [next, size, allocated, minimum, discarded, _] = *header;
-    Counters { sentinel: u64::from(size) << 32 | u64::from(next), allocated, minimum, discarded }
+    let Header { sentinel_next, sentinel_size, allocated, minimum_segment_size, discarded, .. } = *header;
+    let sentinel = u64::from(sentinel_size) << 32 | u64::from(sentinel_next);
+    Counters { sentinel, allocated, minimum_segment_size, discarded }
 }
 
 /// Makes the call through the Rust wrapper.
@@ -108,7 +109,11 @@ impl Side for Ours {
         let (before, rest) = self.store.split_at(CANARIES);
         let (buffer, after) = rest.split_at(rest.len() - CANARIES);
         let (reserved, free) = buffer[..self.shape.data_offset as usize].split_at(self.shape.reserved as usize);
-        all(before, CANARY) && all(after, CANARY) && all(reserved, RESERVED) && all(free, 0) && self.header[5] == UNUSED
+        all(before, CANARY)
+            && all(after, CANARY)
+            && all(reserved, RESERVED)
+            && all(free, 0)
+            && self.header.unused == UNUSED
     }
 }
 
@@ -134,9 +139,9 @@ impl Theirs {
     /// As `Reference::create`: the Rust trusts its caller to stay in document 01's domain.
     pub unsafe fn create(setup: &Setup) -> Option<Self> {
         let freelist = reference::Freelist::try_from(setup.policy).expect("a policy of document 01");
-        let Setup { cap, reserved, unify, minimum, .. } = *setup;
+        let Setup { cap, reserved, unify, minimum_segment_size, .. } = *setup;
         // Safety: handed on to the caller.
-        let mut fresh = unsafe { Reference::create(cap, reserved, unify, freelist, minimum) }.ok()?;
+        let mut fresh = unsafe { Reference::create(cap, reserved, unify == 1, freelist, minimum_segment_size) }.ok()?;
         fresh.bytes_mut()[..reserved as usize].fill(RESERVED);
         Some(Theirs(fresh))
     }
@@ -178,7 +183,7 @@ impl Side for Theirs {
         Counters {
             sentinel: self.0.sentinel(),
             allocated: self.0.allocated(),
-            minimum: self.0.minimum_segment_size(),
+            minimum_segment_size: self.0.minimum_segment_size(),
             discarded: self.0.discarded(),
         }
     }
@@ -213,8 +218,8 @@ fn rust_answer<T>(answer: Result<T, reference::Error>, good: impl FnOnce(T) -> A
 
 fn rust_position(position: Position) -> ArenaPosition {
     match position {
-        Position::Start(x) => ArenaPosition::Start(x),
-        Position::Current(d) => ArenaPosition::Current(d),
-        Position::End(x) => ArenaPosition::End(x),
+        Position::Start(by) => ArenaPosition::Start(by),
+        Position::Current(by) => ArenaPosition::Current(by),
+        Position::End(by) => ArenaPosition::End(by),
     }
 }

@@ -35,14 +35,14 @@ impl Reference {
         reserved: u32,
         unify: bool,
         freelist: Freelist,
-        minimum: u32,
+        minimum_segment_size: u32,
     ) -> Result<Self, Error> {
         let arena = Options::new()
             .with_capacity(cap)
             .with_reserved(reserved)
             .with_unify(unify)
             .with_freelist(freelist)
-            .with_minimum_segment_size(minimum)
+            .with_minimum_segment_size(minimum_segment_size)
             .alloc::<Arena>()?;
         Ok(Self { arena, cap })
     }
