@@ -1,12 +1,12 @@
 //! A mixed day: random requests and give-backs over a small buffer.
 
-use arena::Freelist;
+use arena::Policy;
 use reference::Reference;
 
 use crate::calls::{Bytes, Give, Step};
 use crate::measure::Batch;
 use crate::random::Random;
-use crate::sides::{MINIMUM, Pair, rust_policy};
+use crate::sides::{MINIMUM_SEGMENT_SIZE, Pair, rust_policy};
 
 pub const CAP: u32 = 65_536;
 /// The allocator loses room as the day goes on and later refuses nearly all; so many steps are before that.
@@ -26,7 +26,7 @@ struct Day {
     refused: u32,
 }
 
-pub fn days(policy: Freelist) -> Days {
+pub fn days(policy: Policy) -> Days {
     let days: Vec<Day> = (1..=DAYS).map(|seed| day(policy, &mut Random::new(seed))).collect();
     let sum = |of: fn(&Day) -> u32| f64::from(days.iter().map(of).sum::<u32>());
     let refused = sum(|day| day.refused) / sum(|day| day.requests);
@@ -36,9 +36,10 @@ pub fn days(policy: Freelist) -> Days {
 
 /// The steps with the numbers that the given Rust answers: a random slot's block is given back, or an empty slot asks
 /// for one.
-fn day(policy: Freelist, random: &mut Random) -> Day {
+fn day(policy: Policy, random: &mut Random) -> Day {
     // Safety: only granted blocks are given back, each once.
-    let mut arena = unsafe { Reference::create(CAP, 0, true, rust_policy(policy), MINIMUM) }.expect("a good setup");
+    let mut arena =
+        unsafe { Reference::create(CAP, 0, true, rust_policy(policy), MINIMUM_SEGMENT_SIZE) }.expect("a good setup");
     let mut slots: Vec<Option<Give>> = vec![None; SLOTS];
     let mut day = Day { steps: Vec::with_capacity(STEPS), requests: 0, refused: 0 };
     for _ in 0..STEPS {

@@ -1,12 +1,12 @@
 //! Full arenas with a free list, and the calls made on them.
 
-use arena::Freelist;
+use arena::Policy;
 use reference::Allocator;
 
 use crate::calls::{Bytes, Call, Give, Sound};
 use crate::measure::Batch;
 use crate::random::Random;
-use crate::sides::{DATA_OFFSET, MINIMUM, Pair};
+use crate::sides::{DATA_OFFSET, MINIMUM_SEGMENT_SIZE, Pair};
 
 /// Lists of so many nodes: so many regions to time, so many arenas to a region, so many calls on each arena. Calls on
 /// short lists are too quick to be timed alone; more arenas of them than these would leave the nearest cache.
@@ -33,32 +33,28 @@ struct Listed {
     sizes: Vec<u32>,
 }
 
-pub fn give_backs(policy: Freelist, length: &Length) -> Vec<Batch<Give>> {
+pub fn give_backs(policy: Policy, length: &Length) -> Vec<Batch<Give>> {
     batches(policy, length, |listed, _| listed.held.clone())
 }
 
 /// Each call uses up one node at most, so the last one still finds a node of its size.
-pub fn served_requests(policy: Freelist, length: &Length) -> Vec<Batch<Bytes>> {
+pub fn served_requests(policy: Policy, length: &Length) -> Vec<Batch<Bytes>> {
     batches(policy, length, |listed, random| {
         let most = listed.sizes[length.calls - 1];
-        (0..length.calls).map(|_| Bytes(random.within(MINIMUM..=most))).collect()
+        (0..length.calls).map(|_| Bytes(random.within(MINIMUM_SEGMENT_SIZE..=most))).collect()
     })
 }
 
-pub fn missed_requests(policy: Freelist, length: &Length) -> Vec<Batch<Bytes>> {
+pub fn missed_requests(policy: Policy, length: &Length) -> Vec<Batch<Bytes>> {
     batches(policy, length, |listed, _| vec![Bytes(listed.sizes[0] + 1); length.calls])
 }
 
-pub fn soundness_checks(policy: Freelist, length: &Length) -> Vec<Batch<Sound>> {
+pub fn soundness_checks(policy: Policy, length: &Length) -> Vec<Batch<Sound>> {
     batches(policy, length, |_, _| vec![Sound; length.calls])
 }
 
 /// The same arenas for every kind of call.
-fn batches<C: Call>(
-    policy: Freelist,
-    length: &Length,
-    calls: impl Fn(&Listed, &mut Random) -> Vec<C>,
-) -> Vec<Batch<C>> {
+fn batches<C: Call>(policy: Policy, length: &Length, calls: impl Fn(&Listed, &mut Random) -> Vec<C>) -> Vec<Batch<C>> {
     let member = |seed| {
         let mut random = Random::new(seed);
         let listed = listed(policy, length, &mut random);
@@ -69,7 +65,7 @@ fn batches<C: Call>(
     (0..length.regions).map(region).collect()
 }
 
-fn listed(policy: Freelist, length: &Length, random: &mut Random) -> Listed {
+fn listed(policy: Policy, length: &Length, random: &mut Random) -> Listed {
     let mut top = DATA_OFFSET;
     let mut next_block = || {
         // With its padding and its node word the smallest still makes a segment.

@@ -8,14 +8,14 @@ mod random;
 mod show;
 mod sides;
 
-use arena::Freelist;
+use arena::Policy;
 use calls::{Aligned, Bytes, Call, Typed};
 use lists::{LENGTHS, Length};
 use measure::{Batch, Clock, Cost, Timed};
 use show::{columns, count, nanoseconds, policy_name};
 use sides::{DATA_OFFSET, Pair};
 
-const POLICIES: [Freelist; 2] = [Freelist::Pessimistic, Freelist::Optimistic];
+const POLICIES: [Policy; 2] = [Policy::Pessimistic, Policy::Optimistic];
 /// Large enough that the clock does not show, small enough for the second cache.
 const TOP_CAP: u32 = 262_144;
 
@@ -69,7 +69,7 @@ fn top_row<C: Call + 'static>(name: &str, batch: Batch<C>) -> Row {
 /// As many calls as a fresh arena can serve, where each moves the top by `room`.
 fn filling<C: Call + Clone>(call: C, room: u32) -> Batch<C> {
     let times = (TOP_CAP - DATA_OFFSET.next_multiple_of(room)) / room;
-    let pair = Pair::new(TOP_CAP, Freelist::Optimistic, |_| ());
+    let pair = Pair::new(TOP_CAP, Policy::Optimistic, |_| ());
     vec![(pair, vec![call; times as usize])]
 }
 
@@ -80,7 +80,7 @@ fn lists() -> Table {
     Table { head: show::lists(), rows }
 }
 
-fn list_rows<C: Call + 'static>(name: &str, batches: fn(Freelist, &Length) -> Vec<Batch<C>>) -> Vec<Row> {
+fn list_rows<C: Call + 'static>(name: &str, batches: fn(Policy, &Length) -> Vec<Batch<C>>) -> Vec<Row> {
     by_policy_and_length(|policy, length| {
         let nodes = f64::from(length.nodes);
         Row {
@@ -106,7 +106,7 @@ fn soundness() -> Table {
     Table { head: show::soundness(), rows }
 }
 
-fn by_policy_and_length(row: impl Fn(Freelist, &Length) -> Row) -> Vec<Row> {
+fn by_policy_and_length(row: impl Fn(Policy, &Length) -> Row) -> Vec<Row> {
     let row = &row;
     POLICIES.iter().flat_map(|policy| LENGTHS.iter().map(move |length| row(*policy, length))).collect()
 }

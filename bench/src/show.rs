@@ -1,6 +1,6 @@
 //! What is written around the figures, and how the figures are written.
 
-use arena::Freelist;
+use arena::Policy;
 
 use crate::day;
 use crate::measure::{Clock, Cost, PASSES};
@@ -87,11 +87,11 @@ pub fn columns(cost: Cost) -> String {
     format!("{} | {} | {ratio}", nanoseconds(cost.theirs), nanoseconds(cost.ours))
 }
 
-pub fn policy_name(policy: Freelist) -> &'static str {
+pub fn policy_name(policy: Policy) -> &'static str {
     match policy {
-        Freelist::None => "none",
-        Freelist::Optimistic => "optimistic",
-        Freelist::Pessimistic => "pessimistic",
+        Policy::None => "none",
+        Policy::Optimistic => "optimistic",
+        Policy::Pessimistic => "pessimistic",
     }
 }
 

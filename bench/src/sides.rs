@@ -5,12 +5,12 @@
 
 use std::slice;
 
-use arena::{Arena, Freelist, Header, Settings, Shape};
+use arena::{Arena, Header, Policy, Settings, Shape};
 use reference::{Allocator, Arena as RustArena, Options};
 
 /// Where the data starts, on both sides.
 pub const DATA_OFFSET: u32 = 32;
-pub const MINIMUM: u32 = 20;
+pub const MINIMUM_SEGMENT_SIZE: u32 = 20;
 
 /// Where the given Rust keeps its header.
 const HEADER_OFFSET: usize = 8;
@@ -39,19 +39,19 @@ pub struct Pair {
 
 impl Pair {
     /// Arenas of this capacity and policy, in the state in which `prepare` leaves the given Rust.
-    pub fn new(cap: u32, policy: Freelist, prepare: impl FnOnce(&RustArena)) -> Self {
+    pub fn new(cap: u32, policy: Policy, prepare: impl FnOnce(&RustArena)) -> Self {
         let mut theirs = Options::new()
             .with_capacity(cap)
             .with_unify(true)
             .with_freelist(rust_policy(policy))
-            .with_minimum_segment_size(MINIMUM)
+            .with_minimum_segment_size(MINIMUM_SEGMENT_SIZE)
             .with_maximum_alignment(ALIGN)
             .alloc::<RustArena>()
             .expect("a capacity that holds the header");
         let cap = cap as usize;
         let mut store = vec![0; cap + ALIGN];
-        let settings =
-            Settings { unify: true, freelist: policy as u8, minimum_segment_size: MINIMUM, ..Settings::default() };
+        let minimum_segment_size = MINIMUM_SEGMENT_SIZE;
+        let settings = Settings { unify: true, policy, minimum_segment_size, ..Settings::default() };
         let shape = Arena::new(aligned(&mut store, cap), settings).expect("a good setup").shape();
         rust_data(&mut theirs, cap).fill(NOISE);
         prepare(&theirs);
@@ -70,20 +70,23 @@ impl Pair {
     pub fn ours(&mut self) -> Arena<'_> {
         let buf = aligned(&mut self.store, self.cap);
         buf[DATA_OFFSET as usize..].copy_from_slice(&self.image.data);
-        let [next, size, allocated, minimum, discarded] = self.image.header;
-        Arena::from_parts(self.shape, [next, size, allocated, minimum, discarded, 0], buf)
+        let [sentinel_next, sentinel_size, allocated, minimum_segment_size, discarded] = self.image.header;
+        let header = Header { sentinel_next, sentinel_size, allocated, minimum_segment_size, discarded, unused: 0 };
+        Arena::from_parts(self.shape, header, buf)
     }
 
     /// Whether both sides are in the same state, ours with this header.
     pub fn agree(&mut self, ours: Header) -> bool {
         let buf = aligned(&mut self.store, self.cap);
-        ours[..5] == *rust_header(&mut self.theirs)
+        let numbers =
+            [ours.sentinel_next, ours.sentinel_size, ours.allocated, ours.minimum_segment_size, ours.discarded];
+        numbers == *rust_header(&mut self.theirs)
             && buf[DATA_OFFSET as usize..] == *rust_data(&mut self.theirs, self.cap)
     }
 }
 
 /// The given Rust's name for a policy.
-pub fn rust_policy(policy: Freelist) -> reference::Freelist {
+pub fn rust_policy(policy: Policy) -> reference::Freelist {
     reference::Freelist::try_from(policy as u8).expect("both sides have the same codes")
 }
 
