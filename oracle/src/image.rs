@@ -13,8 +13,8 @@ use crate::random::Random;
 use crate::rules::{self, END_MARK, Segment, View};
 use crate::sides;
 
-/// Longest buffer of an image.
-const MOST: u32 = 4_096;
+/// A buffer longer than this is not shown.
+const SHORT: usize = 4_096;
 
 /// A header that setup has not written.
 pub const UNSET: Header =
@@ -63,8 +63,9 @@ fn forged(data_offset: u32, top: u32, random: &mut Random) -> Vec<Segment> {
 }
 
 impl Image {
-    pub fn new() -> Self {
-        Image { shape: Self::empty_shape(), header: UNSET, fence: Fence::new(MOST as usize) }
+    /// An image for buffers of up to `most` bytes.
+    pub fn new(most: u32) -> Self {
+        Image { shape: Self::empty_shape(), header: UNSET, fence: Fence::new(most as usize) }
     }
 
     /// The shape of a refused setup.
@@ -74,6 +75,11 @@ impl Image {
 
     pub fn view(&self) -> View<'_> {
         View { shape: self.shape, counters: sides::counters(&self.header), bytes: self.fence.buffer() }
+    }
+
+    /// The free segments, none where the arena is unsound.
+    pub fn segments(&self) -> Vec<Segment> {
+        rules::segments(&self.view()).unwrap_or_default()
     }
 
     /// Sets up over a zeroed buffer. A refused setup leaves the unset header and a shape of zeros.
@@ -175,7 +181,8 @@ impl Image {
 
     /// Changes one thing.
     pub fn damage(&mut self, random: &mut Random) {
-        let number = self.any_number(random);
+        let found = self.segments();
+        let number = self.any_number(&found, random);
         match random.below(8) {
             0 => self.damage_shape(number, random),
             1 => self.damage_header(number, random),
@@ -186,7 +193,7 @@ impl Image {
                     *byte ^= 1 << random.below(8);
                 }
             }
-            _ => self.damage_node(number, random),
+            _ => self.damage_node(&found, number, random),
         }
     }
 
@@ -214,9 +221,8 @@ impl Image {
     }
 
     /// Half of a node's word, or of a word where a node could stand, becomes the number.
-    fn damage_node(&mut self, number: u32, random: &mut Random) {
-        let found = rules::segments(&self.view()).unwrap_or_default();
-        let at = match found.as_slice() {
+    fn damage_node(&mut self, found: &[Segment], number: u32, random: &mut Random) {
+        let at = match found {
             [] => random.within(0..=self.shape.cap / 8) * 8,
             nodes => random.pick(nodes).offset,
         };
@@ -236,11 +242,10 @@ impl Image {
     }
 
     /// A number near something that matters, or any at all.
-    fn any_number(&self, random: &mut Random) -> u32 {
+    fn any_number(&self, found: &[Segment], random: &mut Random) -> u32 {
         let Shape { cap, data_offset, .. } = self.shape;
-        let found = rules::segments(&self.view()).unwrap_or_default();
-        let node = if found.is_empty() { 8 } else { random.pick(&found).offset };
-        let size = if found.is_empty() { 8 } else { random.pick(&found).size };
+        let node = if found.is_empty() { 8 } else { random.pick(found).offset };
+        let size = if found.is_empty() { 8 } else { random.pick(found).size };
         let Header { sentinel_next, allocated, .. } = self.header;
         let near = [0, 1, 8, cap, cap / 2, data_offset, allocated, sentinel_next, node, size, LIMIT, u32::MAX];
         match random.below(4) {
@@ -251,9 +256,9 @@ impl Image {
         }
     }
 
-    /// A call with any numbers.
-    pub fn any_call(&self, random: &mut Random) -> Call {
-        let [size, more, other] = std::array::from_fn(|_| self.any_number(random));
+    /// A call with any numbers, some of them near those of these segments.
+    pub fn any_call(&self, found: &[Segment], random: &mut Random) -> Call {
+        let [size, more, other] = std::array::from_fn(|_| self.any_number(found, random));
         let align = if random.one_in(8) { other } else { 1 << random.below(14) };
         let size = if random.one_in(3) { size } else { size / align.max(1) * align };
         let top = i64::from(self.header.allocated);
@@ -262,7 +267,7 @@ impl Image {
             1 => Call::Typed { size, align },
             2 => Call::Aligned { size, align, extra: more },
             3 => Call::Give { offset: more, size: other },
-            4..6 => self.near_give(random),
+            4..6 => self.near_give(found, random),
             6 => Call::Discard,
             7 => Call::Rewind(Position::Start(more)),
             8 => Call::Rewind(Position::Current(i64::from(more) - top)),
@@ -273,9 +278,8 @@ impl Image {
     }
 
     /// A give-back of small numbers, near a free segment if there is one.
-    fn near_give(&self, random: &mut Random) -> Call {
-        let found = rules::segments(&self.view()).unwrap_or_default();
-        let (at, size) = match found.as_slice() {
+    fn near_give(&self, found: &[Segment], random: &mut Random) -> Call {
+        let (at, size) = match found {
             [] => (random.within(self.shape.data_offset..=self.header.allocated), 40),
             nodes => {
                 let near = random.pick(nodes);
@@ -289,15 +293,15 @@ impl Image {
         }
     }
 
-    /// A setup with any numbers, mostly one that is taken.
-    pub fn any_setup(&self, random: &mut Random) -> Setup {
-        let reserved = if random.one_in(20) { self.any_number(random) } else { random.within(0..=40) };
+    /// A setup with any numbers, mostly one that is taken, of up to `most` bytes.
+    pub fn any_setup(&self, most: u32, random: &mut Random) -> Setup {
+        let reserved = if random.one_in(20) { self.any_number(&[], random) } else { random.within(0..=40) };
         let unify = if random.one_in(20) { any_byte(random) } else { random.below(2) as u8 };
-        let most = random.pick(&[0, 40, 100, 300, 300, 600, MOST]);
-        let room = random.within(0..=most);
+        let usual = random.pick(&[0, 40, 100, 300, 300, 600, most]);
+        let room = random.within(0..=usual);
         let start = if random.one_in(8) { 0 } else { rules::data_offset(reserved, unify) };
         Setup {
-            cap: (start + u64::from(room)).min(MOST.into()) as u32,
+            cap: (start + u64::from(room)).min(most.into()) as u32,
             reserved,
             unify,
             policy: if random.one_in(20) { any_byte(random) } else { random.below(3) as u8 },
@@ -310,11 +314,18 @@ impl Image {
         }
     }
 
-    /// The whole image as a text.
+    /// The bytes of a short buffer, to be put back and shown after a fault.
+    pub fn short_bytes(&self) -> Option<Vec<u8>> {
+        let buf = self.fence.buffer();
+        (buf.len() <= SHORT).then(|| buf.to_vec())
+    }
+
+    /// The whole image as a text, of a longer buffer the length alone.
     pub fn shown(&self) -> String {
-        let mut text = format!("{:?}\nheader {:?}\nbuffer ", self.shape, self.header);
-        for byte in self.fence.buffer() {
-            write!(text, "{byte:02x}").expect("a string grows");
+        let mut text = format!("{:?}\n{:?}\nbuffer ", self.shape, self.header);
+        match self.short_bytes() {
+            Some(bytes) => bytes.iter().for_each(|byte| write!(text, "{byte:02x}").expect("a string grows")),
+            None => write!(text, "of {} bytes", self.fence.buffer().len()).expect("a string grows"),
         }
         text
     }

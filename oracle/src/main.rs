@@ -8,6 +8,7 @@ mod exhaustive;
 mod fence;
 mod held;
 mod image;
+mod judge;
 mod limit;
 mod model;
 mod mutants;
@@ -16,12 +17,14 @@ mod record;
 mod rules;
 mod sides;
 mod watch;
+mod wide;
 
 use std::process::ExitCode;
 use std::{env, fs};
 
 use choose::Caps;
 use drive::{Difference, Make};
+use judge::Answers;
 use sides::{Ours, Side};
 
 const USAGE: &str = "\
@@ -29,7 +32,8 @@ oracle compare [--calls N] [--seed S]   random calls on both sides, compared aft
 oracle wide [--calls N] [--seed S]      the same on arenas of 65,537 to 2,097,152 bytes
 oracle exhaustive                       every short sequence of calls on small arenas
 oracle limit                            some calls on buffers of the largest length (two gigabytes)
-oracle damaged [--calls N] [--seed S]   damaged headers and buffers and any numbers, our side alone
+oracle damaged [--calls N] [--seed S]   damaged headers and buffers and any numbers, our side alone; and a fifteenth
+                                        as many calls on arenas of up to 2,097,152 bytes with long lists
 oracle mutants [--seed S]               wrong programs, each of which the comparison must see
 oracle record [--calls N] [--seed S] --out FILE   a sample of the Rust's answers";
 
@@ -130,12 +134,14 @@ fn damaged(calls: u64, seed: u64) -> bool {
     }
     println!("setups: {}", by_answer(&count.setups));
     println!("calls: {}", by_answer(&count.calls));
-    let calls: u64 = count.calls.iter().sum();
-    println!("damaged: {calls} calls, seed {seed}, {} faults", u8::from(outcome.is_err()));
+    println!("wide calls: {}", by_answer(&count.wide.calls));
+    println!("{}", count.wide);
+    let [calls, wide]: [u64; 2] = [count.calls, count.wide.calls].map(|answers| answers.iter().sum());
+    println!("damaged: {calls} calls and {wide} wide ones, seed {seed}, {} faults", u8::from(outcome.is_err()));
     outcome.is_ok()
 }
 
-fn by_answer(counts: &[u64; 10]) -> String {
+fn by_answer(counts: &Answers) -> String {
     let refused: Vec<String> = (1..10).map(|no| format!("{no}: {}", counts[no])).collect();
     format!("{} not refused; refused {}", counts[0], refused.join(", "))
 }

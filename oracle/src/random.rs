@@ -9,6 +9,11 @@ impl Random {
         Random(seed)
     }
 
+    /// The numbers of one round of a run.
+    pub fn of_round(seed: u64, round: u64) -> Self {
+        Random(seed.wrapping_mul(0x1_0000_0001).wrapping_add(round))
+    }
+
     pub fn number(&mut self) -> u64 {
         self.0 = self.0.wrapping_add(0x9e37_79b9_7f4a_7c15);
         let x = (self.0 ^ (self.0 >> 30)).wrapping_mul(0xbf58_476d_1ce4_e5b9);

@@ -75,12 +75,16 @@ pub fn head_sound(view: &View) -> bool {
 
 /// The free segments in list order, or none where the arena is unsound.
 pub fn segments(view: &View) -> Option<Vec<Segment>> {
+    listed(view).filter(|found| meeting(found).is_empty())
+}
+
+/// The same, but that they may share bytes.
+pub fn listed(view: &View) -> Option<Vec<Segment>> {
     let [size_half, next] = halves(view.counters.sentinel);
     if !head_sound(view) || size_half != END_MARK || (view.shape.policy == 0 && next != END_MARK) {
         return None;
     }
-    let found = walk(view, next)?;
-    (in_order(&found, view.shape.policy) && apart(&found)).then_some(found)
+    walk(view, next).filter(|found| in_order(found, view.shape.policy))
 }
 
 pub fn sound(view: &View) -> bool {
@@ -119,10 +123,12 @@ fn in_order(found: &[Segment], policy: u8) -> bool {
     })
 }
 
-fn apart(found: &[Segment]) -> bool {
+/// The neighbours by place that share a byte; where there are none, no two segments do.
+pub fn meeting(found: &[Segment]) -> Vec<[Segment; 2]> {
     let mut by_place = found.to_vec();
-    by_place.sort_by_key(|segment| segment.offset);
-    by_place.windows(2).all(|pair| pair[0].end() <= pair[1].offset.into())
+    by_place.sort_unstable_by_key(|segment| segment.offset);
+    let neighbours = by_place.windows(2).map(|pair| [pair[0], pair[1]]);
+    neighbours.filter(|[low, high]| low.end() > high.offset.into()).collect()
 }
 
 /// The refusal among 1 to 8 that the call is owed, in document 01's order, or none.
