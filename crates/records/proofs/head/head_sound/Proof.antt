@@ -1,10 +1,10 @@
--- `records::head_sound` meets its contract. Each refusal contradicts a fact of the head. Assumes nothing.
+-- `records::head::head_sound` meets its contract. Each refusal contradicts a fact of the head. Assumes nothing.
 use mathlib.Core.Path.{sym}
 use native.Mathlib.Omega.{arith}
 use Rattle.records.proofs.Facts.{head-no, facts-head}
 use borrow.Author.Needs.{needs}
-use Rattle.records.proofs.head_sound.Statement.{statement}
-use Rattle.records.proofs.head_sound.Tie as tie
+use Rattle.records.proofs.head.head_sound.Statement.{statement}
+use Rattle.records.proofs.head.head_sound.Tie as tie
 
 cast-if1 : tie.Need-cast-if1
 cast-if1 c = search needs

@@ -1,10 +1,10 @@
--- `records::lose` meets its contract: the sum, or the bound where the sum passes it, is the smaller of the two. Assumes nothing.
+-- `records::change::lose` meets its contract: the sum, or the bound where the sum passes it, is the smaller of the two. Assumes nothing.
 use Prim.Native.Nat.{_+_, _≤_}
 use native.Mathlib.Omega.{arith}
 use native.Mathlib.Nat.{min-eq-left, min-eq-right}
 use borrow.Author.Needs.{needs}
-use Rattle.records.proofs.lose.Statement.{statement}
-use Rattle.records.proofs.lose.Tie as tie
+use Rattle.records.proofs.change.lose.Statement.{statement}
+use Rattle.records.proofs.change.lose.Tie as tie
 
 cast-sum : tie.Need-cast-sum
 cast-sum c = search needs

@@ -1,8 +1,8 @@
--- `records::policy_of` meets its contract: one code after another, in the order of `policyOf`. Assumes nothing.
+-- `records::set_up::policy_of` meets its contract: one code after another, in the order of `policyOf`. Assumes nothing.
 use Rattle.records.specs.Setup.{policyOf}
 use Rattle.words.proofs.Tests.{tests}
-use Rattle.records.proofs.policy_of.Statement.{statement}
-use Rattle.records.proofs.policy_of.Tie as tie
+use Rattle.records.proofs.set_up.policy_of.Statement.{statement}
+use Rattle.records.proofs.set_up.policy_of.Tie as tie
 
 returns : tie.Need-returns
 unfolding policyOf

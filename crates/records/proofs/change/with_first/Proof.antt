@@ -1,7 +1,7 @@
--- `records::with_first` meets its contract: the sentinel is the node word of the end mark and the first node. Assumes nothing.
+-- `records::change::with_first` meets its contract: the sentinel is the node word of the end mark and the first node. Assumes nothing.
 use borrow.Author.Needs.{needs}
-use Rattle.records.proofs.with_first.Statement.{statement}
-use Rattle.records.proofs.with_first.Tie as tie
+use Rattle.records.proofs.change.with_first.Statement.{statement}
+use Rattle.records.proofs.change.with_first.Tie as tie
 
 node-word-requires : tie.Need-node-word-requires
 node-word-requires c κs = search needs

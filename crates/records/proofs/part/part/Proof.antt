@@ -1,9 +1,9 @@
--- `records::part` meets its contract: the cases of `partOf`. Past the buffer the part is empty, within it it is what is lent. Assumes nothing.
+-- `records::part::part` meets its contract: the cases of `partOf`. Past the buffer the part is empty, within it it is what is lent. Assumes nothing.
 use native.Mathlib.Omega.{arith}
 use Rattle.records.proofs.Parts.{part-in, part-out}
 use borrow.Author.Needs.{needs}
-use Rattle.records.proofs.part.Statement.{statement}
-use Rattle.records.proofs.part.Tie as tie
+use Rattle.records.proofs.part.part.Statement.{statement}
+use Rattle.records.proofs.part.part.Tie as tie
 
 slice-aggregate-result : tie.Need-slice-aggregate-result
 slice-aggregate-result c = search needs

@@ -1,9 +1,9 @@
--- `records::bytes_mut` meets its contract: the cases of `partOf` and of `placeOf`. Past the buffer the part is empty, within it it is what is lent. Assumes nothing.
+-- `records::part::bytes_mut` meets its contract: the cases of `partOf` and of `placeOf`. Past the buffer the part is empty, within it it is what is lent. Assumes nothing.
 use native.Mathlib.Omega.{arith}
 use Rattle.records.proofs.Parts.{part-in, part-out, place-in, place-out}
 use borrow.Author.Needs.{needs}
-use Rattle.records.proofs.bytes_mut.Statement.{statement}
-use Rattle.records.proofs.bytes_mut.Tie as tie
+use Rattle.records.proofs.part.bytes_mut.Statement.{statement}
+use Rattle.records.proofs.part.bytes_mut.Tie as tie
 
 cast-at : tie.Need-cast-at
 cast-at c = search needs

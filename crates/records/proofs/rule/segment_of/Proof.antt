@@ -1,10 +1,10 @@
--- `records::segment_of` meets its contract: the cases of `segmentOf`, in the order of its tests. Assumes nothing.
+-- `records::rule::segment_of` meets its contract: the cases of `segmentOf`, in the order of its tests. Assumes nothing.
 use mathlib.Core.Path.{sym}
 use native.Mathlib.Omega.{arith}
 use Rattle.records.proofs.Rules.{rule-origin, rule-empty, rule-no-room, rule-small, rule-at}
 use borrow.Author.Needs.{needs}
-use Rattle.records.proofs.segment_of.Statement.{statement}
-use Rattle.records.proofs.segment_of.Tie as tie
+use Rattle.records.proofs.rule.segment_of.Statement.{statement}
+use Rattle.records.proofs.rule.segment_of.Tie as tie
 
 returns : tie.Need-returns
 returns c = sym (rule-origin _ _ _ (omega arith))

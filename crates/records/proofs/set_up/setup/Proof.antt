@@ -1,10 +1,10 @@
--- `records::setup` meets its contract: the cases of `settingUp`, in the order of its tests. Assumes nothing.
+-- `records::set_up::setup` meets its contract: the cases of `settingUp`, in the order of its tests. Assumes nothing.
 use mathlib.Core.Path.{sym, _∙_}
 use native.Mathlib.Omega.{arith}
 use Rattle.records.proofs.Rules.{setup-unknown, setup-large, setup-short, setup-ready}
 use borrow.Author.Needs.{needs}
-use Rattle.records.proofs.setup.Statement.{statement}
-use Rattle.records.proofs.setup.Tie as tie
+use Rattle.records.proofs.set_up.setup.Statement.{statement}
+use Rattle.records.proofs.set_up.setup.Tie as tie
 
 policy-of-requires : tie.Need-policy-of-requires
 policy-of-requires c κs = search needs

@@ -1,9 +1,9 @@
--- `records::data_offset` meets its contract: each arm makes the number of `dataOffset`, and the bounds are those of rounding up. Assumes nothing.
+-- `records::set_up::data_offset` meets its contract: each arm makes the number of `dataOffset`, and the bounds are those of rounding up. Assumes nothing.
 use native.Mathlib.Omega.{arith}
 use Rattle.records.specs.Setup.{dataOffset}
 use borrow.Author.Needs.{needs}
-use Rattle.records.proofs.data_offset.Statement.{statement}
-use Rattle.records.proofs.data_offset.Tie as tie
+use Rattle.records.proofs.set_up.data_offset.Statement.{statement}
+use Rattle.records.proofs.set_up.data_offset.Tie as tie
 
 align8-requires : tie.Need-align8-requires
 align8-requires c κs = search needs
