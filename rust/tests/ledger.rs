@@ -1,14 +1,12 @@
 //! The ledger of document 01 through the wrapper.
 
-use arena::raw::END_MARK;
+mod common;
+
 use arena::{Arena, Block, Policy, Position, Refusal, Settings};
+use common::{block, list};
 
 fn settings(policy: Policy, reserved: u32) -> Settings {
     Settings { reserved, policy, ..Settings::default() }
-}
-
-fn block(memory_offset: u32, memory_size: u32, usable_offset: u32, usable_size: u32) -> Result<Option<Block>, Refusal> {
-    Ok(Some(Block { memory_offset, memory_size, usable_offset, usable_size }))
 }
 
 /// Start S: three blocks fill 200 bytes, and the first two are given back. Their bytes hold 7s.
@@ -24,19 +22,6 @@ fn start(buf: &mut [u8; 200], policy: Policy) -> Arena<'_> {
     assert_eq!((arena.discarded(), arena.allocated()), (16, 200));
     assert!(arena.sound());
     arena
-}
-
-/// The list's nodes with their data sizes, read from header and bytes.
-fn list(arena: &Arena) -> Vec<(u32, u32)> {
-    let mut nodes = Vec::new();
-    let mut at = arena.header().sentinel_next;
-    while at != END_MARK {
-        let word = Block { memory_offset: at, memory_size: 8, usable_offset: at, usable_size: 8 };
-        let word = u64::from_le_bytes(arena.bytes(&word).try_into().unwrap());
-        nodes.push((at, (word >> 32) as u32));
-        at = word as u32;
-    }
-    nodes
 }
 
 #[test]
