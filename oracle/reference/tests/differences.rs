@@ -58,6 +58,13 @@ fn an_unknown_policy_has_no_value() {
 }
 
 #[test]
+fn a_fresh_buffer_is_zeroed_and_aligned_to_eight() {
+    let arena = arena(101, 3, Freelist::None);
+    assert!(arena.bytes().iter().all(|byte| *byte == 0));
+    assert_eq!(arena.bytes().as_ptr().align_offset(8), 0);
+}
+
+#[test]
 fn sizes_over_the_limit_are_looked_for() {
     let refused = arena(100, 0, Freelist::None).alloc_bytes(1_073_741_825);
     assert_eq!(refused, Err(Error::InsufficientSpace { requested: 1_073_741_825, available: 99 }));
@@ -137,7 +144,8 @@ fn a_rewind_cuts_the_list_and_blocks_share_bytes() {
     let mut arena = start(Freelist::Pessimistic);
     arena.rewind(ArenaPosition::End(100));
     assert_eq!(arena.allocated(), 100);
-    // Bytes 100 to 108 are the end of the free segment from 48 to 108, which is handed out as well.
+    // Bytes 100 to 107 are the end of the free segment from 48 to 107, which is handed out as well: the usable bytes
+    // 56 to 105 of the second block share 100 to 105 with the first.
     assert_eq!(arena.alloc_bytes(8), Ok(Some([100, 8, 100, 8])));
     arena.rewind(ArenaPosition::End(0));
     assert_eq!(arena.alloc_bytes(50), Ok(Some([48, 52, 56, 50])));
