@@ -12,6 +12,5 @@ pub mod Starts
 pub mod Grants
 pub mod DemandThree
 pub mod HeldBytes
-pub mod OneResult
 pub mod WrongPrograms
 pub mod Steps

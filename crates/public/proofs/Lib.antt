@@ -1,0 +1,2 @@
+-- The theorem over the public calls.
+pub mod OneResult

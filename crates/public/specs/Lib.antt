@@ -1,0 +1,2 @@
+-- The public calls and what their contracts promise.
+pub mod Public
