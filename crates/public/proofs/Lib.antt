@@ -1,2 +1,3 @@
 -- The theorem over the public calls.
+pub mod Lent
 pub mod OneResult
