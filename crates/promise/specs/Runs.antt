@@ -95,10 +95,11 @@ Allowed st (Rewind p) = Unit {0}
 Allowed st (SetMinimum n) = Unit {0}
 Allowed st (AddDiscarded n) = Unit {0}
 
--- demand 3: callers write only in usable bytes of blocks they hold
+-- demand 3: callers write only in usable bytes of blocks they hold. Here they may write in all bytes of those blocks: that is more than is asked, so
+-- that every run of the request's callers is one of these
 pub record Written (st : State) (l : List ℕ) : Type 0 where
   pub long : length l ≡ length (st .bytes)
-  pub outside : (x : ℕ) → ((b : Block) → List·Memᴰ b (st .held) → Usable b x → ⊥) → getD l x 0 ≡ getD (st .bytes) x 0
+  pub outside : (x : ℕ) → ((b : Block) → List·Memᴰ b (st .held) → Holds b x → ⊥) → getD l x 0 ≡ getD (st .bytes) x 0
 
 -- the states that callers can bring about: start from a fresh writable arena, as setup answers it, over any bytes
 pub data Reached (s : Shape) : State → Type 0 where
