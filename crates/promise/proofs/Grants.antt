@@ -20,7 +20,7 @@ use Rattle.records.specs.declared.Block.{Block}
 use Rattle.records.specs.declared.Request.{Request}
 use Rattle.records.specs.declared.Segment.{Segment}
 use Rattle.records.specs.declared.Segment.the-variants.{At, Refused}
-use Rattle.requests.specs.Request.{wellFormed, plain, need, listBlock}
+use Rattle.requests.specs.Request.{wellFormed, plain, want, need, listBlock}
 use Rattle.requests.proofs.Plans.{plain-formed, block-in-list}
 use Rattle.freelist.specs.Segs.{Seg, All}
 use Rattle.freelist.specs.Place.{removeAt}
@@ -75,7 +75,7 @@ module _ {s : Shape} {st : State} (k : Kept s st) (r : Request) (past : PastTop 
         past .formed,
         facts-head s (st .header) (length (st .bytes)) (hold-head (k .holding)),
         past .some,
-        lt-leb _ _ (past .past),
+        lt-leb (want (st .header .allocated) (plain r)) (s .cap) (omega (arith, past)),
         k .holding .sounds,
       )
 

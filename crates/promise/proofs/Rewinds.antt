@@ -1,6 +1,6 @@
 -- A discard, a rewind and the setters keep the invariant, and every byte. A discard lets go of segments only. A rewind that is done leaves no segment above
 -- the new top, which lies between data offset and capacity, and ends every block that passes it. The setters change counters alone. Assumes nothing.
-use Prim.Native.Nat.{ℕ, _+_, _≤_}
+use Prim.Native.Nat.{ℕ, _≤_}
 use mathlib.Core.Path.{_≡_, refl}
 use mathlib.Core.Bool.{true, not}
 use native.Mathlib.Omega.{arith}
@@ -31,9 +31,7 @@ use Rattle.promise.proofs.Cases.{Left, left-quiet, left-refused}
 
 -- a block that ends by the new top has its hull below it
 ends-hull : (top : ℕ) (b : Block) → endsBy top b ≡ true → hullEnd b ≤ top
-ends-hull top b e =
-    let r = both (leb (b .«memory_offset» + b .«memory_size») top) (leb (b .«usable_offset» + b .«usable_size») top) e in
-    omega (arith, leb-true)
+ends-hull top b e = let r = both (leb _ top) (leb _ top) e in omega (arith, leb-true)
 
 module _ {s : Shape} {st : State} (k : Kept s st) where
   pub discard-left : Left s st Discard (discarding s (st .header) (st .bytes))
