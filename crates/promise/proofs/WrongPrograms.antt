@@ -1,11 +1,13 @@
 -- Programs that the promises shut out, each refuted at a small arena by computing. The contracts shut out one that refuses everything, one that records
 -- nothing or no node's word, one that loses what is given back after the first, an invented discard sum and an invented count of discarded bytes. Demand 3
--- shuts out one fixed block each time, one that puts in front what is given back after the first and one that refuses everything past the top. Assumes nothing.
-use Prim.Native.Nat.{ℕ, _+_, _≤_}
+-- shuts out, by the program's own runs, one fixed block each time, whichever block with a byte that is, one that puts in front what is given back after the
+-- first and one that refuses everything past the top. One that refuses everything holds no block in its own runs; at the states that the contracts lead to
+-- demand 3 shuts it out too. Assumes nothing.
+use Prim.Native.Nat.{ℕ, _+_}
 use mathlib.Core.Path.{_≡_, refl, sym, ap, _∙_}
-use mathlib.Core.Logic.{_↔_, inl}
+use mathlib.Core.Logic.{_↔_}
 use mathlib.Core.Bool.{true, false, false≢true}
-use mathlib.Core.List.{List, [], List·Memᴰ, List·Memᴰ·head, List·Memᴰ·tail}
+use mathlib.Core.List.{List, [], List·Memᴰ·head, List·Memᴰ·tail}
 use native.Mathlib.Omega.{arith}
 use lib.Dec.{ltb, eqb}
 use lib.ListN.{length, replicate, getD}
@@ -30,8 +32,8 @@ use Rattle.records.specs.declared.Segment.{Segment}
 use Rattle.records.specs.declared.Segment.the-variants.{At, Refused}
 use Rattle.records.proofs.Facts.{pick-either}
 use Rattle.requests.specs.Request as Rq
-use Rattle.requests.specs.Request.{block, plain, want, need}
-use Rattle.freelist.specs.Segs.{Seg, Pairwise}
+use Rattle.requests.specs.Request.{block, plain, want}
+use Rattle.freelist.specs.Segs.{Pairwise}
 use Rattle.freelist.specs.Check as C
 use Rattle.freelist.specs.Link as L
 use Rattle.freelist.specs.Sound as So
@@ -47,6 +49,7 @@ use Rattle.promise.specs.Runs.{State, Holds, heldAfter, elsewhere, Allow
 use Rattle.promise.proofs.Holding.{Kept, keeps, hold-only, hold-counters}
 use Rattle.promise.proofs.Cases.{Left, left-quiet}
 use Rattle.promise.proofs.Starts.{fresh-keeps}
+use Rattle.promise.proofs.Grants.{Grants, Fits}
 use Rattle.promise.proofs.DemandThree.{call-left, kept-promise, demand-three}
 
 -- a program answers every call on any arena
@@ -74,9 +77,15 @@ Sounds p = (s : Shape) (st : State) → Brought p s st → Sound s (st .header) 
 abbrev pub Parts : Program → Type 0
 Parts p = (s : Shape) (st : State) → Brought p s st → Pairwise (λ a b. (x : ℕ) → Holds a x → Holds b x → ⊥) (st .held)
 
+abbrev pub GrantsIn : Program → Shape → State → Type 0
+GrantsIn p s st = (r : Request) → PastTop s st r → (s .policy ≡ None → ⊥) → Grants (p s (st .header) (st .bytes) (Take r)) ↔ Fits s st r
+
 abbrev pub GrantsExactly : Program → Type 0
-GrantsExactly p = (s : Shape) (st : State) → Brought p s st → (r : Request) → PastTop s st r → (s .policy ≡ None → ⊥)
-    → ((b : Block) × (p s (st .header) (st .bytes) (Take r) .says ≡ granted b)) ↔ ((g : Seg) × List·Memᴰ g (freeIn s st) × (need (plain r) ≤ g .size))
+GrantsExactly p = (s : Shape) (st : State) → Brought p s st → GrantsIn p s st
+
+-- the same, asked at the states that callers bring about where every call does what its contract states
+abbrev pub GrantsWhereReached : Program → Type 0
+GrantsWhereReached p = (s : Shape) (st : State) → Reached s st → GrantsIn p s st
 
 -- the program that the contracts state has all this
 brought-reached : (s : Shape) {st : State} → Brought performed s st → Reached s st
@@ -89,8 +98,11 @@ performed-sounds s st b = demand-three s st (brought-reached s b) .is-sound
 pub performed-parts : Parts performed
 performed-parts s st b = demand-three s st (brought-reached s b) .held-apart
 
+pub performed-grants-where-reached : GrantsWhereReached performed
+performed-grants-where-reached s st r = demand-three s st r .grants
+
 pub performed-grants-exactly : GrantsExactly performed
-performed-grants-exactly s st b = demand-three s st (brought-reached s b) .grants
+performed-grants-exactly s st b = performed-grants-where-reached s st (brought-reached s b)
 
 -- an arena of 64 bytes, and it fresh
 abbrev small : Shape
@@ -135,24 +147,23 @@ recordsNothing s h l c = leaves (performed s h l c .says) h l
 pub records-nothing-out : Meets recordsNothing → ⊥
 records-nothing-out = same-header-out recordsNothing (λ s h l c. refl)
 
--- one fixed block each time
-abbrev always : Said → Said
-always (granted b) = granted (block 8 8 8 8)
-always nothing = nothing
-always (givenBack b) = givenBack b
-always (sum n) = sum n
-always done = done
-always (refused n c) = refused n c
+-- one fixed block each time, where it grants: any block that has a byte
+abbrev always : Block → Said → Said
+always b (granted c) = granted b
+always b nothing = nothing
+always b (givenBack x) = givenBack x
+always b (sum n) = sum n
+always b done = done
+always b (refused n c) = refused n c
 
-abbrev pub oneBlock : Program
-oneBlock s h l c = leaves (always (performed s h l c .says)) (performed s h l c .header) (performed s h l c .bytes)
+abbrev pub oneBlock : Block → Program
+oneBlock b s h l c = leaves (always b (performed s h l c .says)) (performed s h l c .header) (performed s h l c .bytes)
 
-pub one-block-out : Parts oneBlock → ⊥
+pub one-block-out : (b : Block) (x : ℕ) → Holds b x → Parts (oneBlock b) → ⊥
 unfolding R.roundUp W.splice W.zeroed St.dataOffset Hd.headSound Rq.wellFormed Rq.plain Rq.forNothing Rq.want Rq.topBlock Rq.zeroedFrom T.fromTop T.taking
-one-block-out m =
-    let two = next (Take (Bytes 8)) tt (next (Take (Bytes 8)) tt (begin-brought oneBlock)) in
-    let byte : Holds (block 8 8 8 8) 8 = inl (omega arith, omega arith) in
-    m small _ two .0 .0 8 byte byte
+one-block-out b x byte m =
+    let two = next (Take (Bytes 8)) tt (next (Take (Bytes 8)) tt (begin-brought (oneBlock b))) in
+    m small _ two .0 .0 x byte byte
 
 -- three blocks, up to the capacity: (8,24), (32,16), (48,16)
 abbrev takenBy : Program → State
@@ -235,14 +246,26 @@ refusesPast s h l (Rewind p) = performed s h l (Rewind p)
 refusesPast s h l (SetMinimum n) = performed s h l (SetMinimum n)
 refusesPast s h l (AddDiscarded n) = performed s h l (AddDiscarded n)
 
+-- one that refuses 10 bytes past the top where some segment has room for them is out
+refusing-out : (p : Program) (st : State) (n : ℕ) (carried : List ℕ) → p small (st .header) (st .bytes) (Take (Bytes 10)) .says ≡ refused n carried
+    → PastTop small st (Bytes 10) → Fits small st (Bytes 10) → GrantsIn p small st → ⊥
+refusing-out p st n carried answer past fits m =
+    let ordered : _≡_ {A = Policy} (Ordered Optimistic) None → ⊥ = λ e. false≢true cc in
+    let b = m (Bytes 10) past ordered .1 fits in
+    false≢true (cc (answer, b .1))
+
 pub refuses-past-out : GrantsExactly refusesPast → ⊥
 unfolding R.roundUp W.valueOf W.digits W.splice W.wordAt W.putWord W.zeroed St.dataOffset Hd.headSound Ru.segmentOf Rq.wellFormed Rq.plain Rq.forNothing Rq.want Rq.need Rq.topBlock Rq.zeroedFrom C.inRange C.mayFollow C.kept C.goodRun C.soundb L.linkBytes L.linkHead L.insertBytes L.insertHead So.sound So.free T.fromTop T.taking G.putIn G.belowTop G.givingBack
 refuses-past-out m =
     let once = next (Give 8 24) (block 8 24 8 24, List·Memᴰ·tail (List·Memᴰ·tail (List·Memᴰ·head refl)), refl, refl) (taken-brought refusesPast) in
-    let ten : PastTop small (leftBy refusesPast small (takenBy refusesPast) (Give 8 24)) (Bytes 10) = record { formed = refl; some = refl; past = omega arith } in
-    let ordered : _≡_ {A = Policy} (Ordered Optimistic) None → ⊥ = λ e. false≢true cc in
-    let b = m small _ once (Bytes 10) ten ordered .1 (record { offset = 8; size = 16 }, List·Memᴰ·head refl, omega arith) in
-    false≢true (cc (b .1))
+    refusing-out refusesPast _ 9 [] refl (record { formed = refl; some = refl; past = omega arith }) (record { offset = 8; size = 16 }, List·Memᴰ·head refl, omega arith) (m small _ once)
+
+-- so is one that refuses everything, at the state that the contracts lead to by the same calls
+pub refuses-all-grants-out : GrantsWhereReached refusesAll → ⊥
+unfolding R.roundUp W.valueOf W.digits W.splice W.wordAt W.putWord W.zeroed St.dataOffset Hd.headSound Ru.segmentOf Rq.wellFormed Rq.plain Rq.forNothing Rq.want Rq.need Rq.topBlock Rq.zeroedFrom C.inRange C.mayFollow C.kept C.goodRun C.soundb L.linkBytes L.linkHead L.insertBytes L.insertHead So.sound So.free T.fromTop T.taking G.putIn G.belowTop G.givingBack
+refuses-all-grants-out m =
+    let once = next (Give 8 24) (block 8 24 8 24, List·Memᴰ·tail (List·Memᴰ·tail (List·Memᴰ·head refl)), refl, refl) (taken-brought performed) in
+    refusing-out refusesAll _ 1 [] refl (record { formed = refl; some = refl; past = omega arith }) (record { offset = 8; size = 16 }, List·Memᴰ·head refl, omega arith) (m small _ (brought-reached small once))
 
 -- an invented discard sum
 abbrev invented : Said → Said

@@ -95,7 +95,7 @@ Allowed st (Rewind p) = Unit {0}
 Allowed st (SetMinimum n) = Unit {0}
 Allowed st (AddDiscarded n) = Unit {0}
 
--- demand 3: callers write only in usable bytes of blocks they hold. Here they may write in all bytes of those blocks: that is more than is asked, so
+-- demand 3: callers write only in usable bytes of blocks they hold. Here they may write in every byte of those blocks, which is more than is asked, so
 -- that every run of the request's callers is one of these
 pub record Written (st : State) (l : List ℕ) : Type 0 where
   pub long : length l ≡ length (st .bytes)
