@@ -17,7 +17,8 @@ use Rattle.records.specs.declared.Shape.{Shape}
 use Rattle.records.specs.declared.Header.{Header}
 use Rattle.records.specs.declared.Segment.the-variants.{At, Refused}
 use Rattle.records.proofs.Rules.{cut-of}
-use Rattle.freelist.specs.Check.{passed, meets}
+use Rattle.freelist.specs.Segs.{passed}
+use Rattle.freelist.specs.Place.{meets}
 use Rattle.freelist.specs.Link.{Inserted}
 use Rattle.freelist.specs.Sound.{firstOf, sound, free}
 use Rattle.freelist.proofs.Arenas.{sound-head}

@@ -8,8 +8,7 @@ use lib.ListN.{length}
 use Rattle.words.specs.Word.{wordAt, endMark}
 use Rattle.records.specs.declared.Shape.{Shape}
 use Rattle.records.specs.declared.Header.{Header}
-use Rattle.freelist.specs.Segs.{Seg, Run, All, EndsBy}
-use Rattle.freelist.specs.Check.{followed, passed}
+use Rattle.freelist.specs.Segs.{Seg, Run, All, EndsBy, followed, passed}
 use Rattle.freelist.specs.Sound.{firstOf, sound, free, surveyed}
 use Rattle.freelist.specs.declared.Finding.the-variants.{Sound}
 use Rattle.freelist.proofs.Runs.{run-followed, run-passed}

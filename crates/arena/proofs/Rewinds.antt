@@ -12,8 +12,8 @@ use Rattle.records.specs.Change.{withTop, withFirst, losing}
 use Rattle.records.specs.declared.Shape.{Shape}
 use Rattle.records.specs.declared.Header.{Header}
 use Rattle.records.specs.declared.Position.{Position}
-use Rattle.freelist.specs.Check.{passed, anyAbove}
-use Rattle.freelist.specs.Link.{sizes}
+use Rattle.freelist.specs.Segs.{passed, sizes}
+use Rattle.freelist.specs.Place.{anyAbove}
 use Rattle.freelist.specs.Sound.{sound}
 use Rattle.arena.specs.Rewind.{discarding, rewound, rewinding, setting}
 use Rattle.arena.proofs.Lists.{Counted}

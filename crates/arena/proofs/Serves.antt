@@ -20,8 +20,7 @@ use Rattle.records.specs.declared.Request.{Request}
 use Rattle.records.specs.declared.Segment.the-variants.{At, Refused}
 use Rattle.records.proofs.Rules.{cut-of}
 use Rattle.requests.specs.Request.{need, listBlock}
-use Rattle.freelist.specs.Segs.{Seg, InRange, Listed}
-use Rattle.freelist.specs.Check.{passed}
+use Rattle.freelist.specs.Segs.{Seg, InRange, Listed, passed}
 use Rattle.freelist.specs.Place.{removeAt}
 use Rattle.freelist.specs.Link.{removeBytes, removeHead, Inserted, Removed}
 use Rattle.freelist.specs.Sound.{firstOf, sound, free}

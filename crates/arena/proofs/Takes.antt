@@ -22,7 +22,7 @@ use Rattle.records.specs.declared.Request.{Request}
 use Rattle.requests.specs.Request.{wellFormed, plain, forNothing, want, topEnd, need, asked, block, Planned}
 use Rattle.requests.proofs.Plans.{top-met, top-past}
 use Rattle.freelist.specs.Segs.{Seg, Run}
-use Rattle.freelist.specs.Link.{Spotted, passes}
+use Rattle.freelist.specs.Place.{Spotted, passes}
 use Rattle.freelist.specs.Sound.{sound, free}
 use Rattle.freelist.specs.declared.Spot.{Spot}
 use Rattle.freelist.specs.declared.Test.the-variants.{Room}

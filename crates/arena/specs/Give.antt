@@ -16,8 +16,7 @@ use Rattle.records.specs.declared.Header.{Header}
 use Rattle.records.specs.declared.Segment.{Segment}
 use Rattle.records.specs.declared.Segment.the-variants.{At, Refused}
 use Rattle.freelist.specs.Segs.{Seg, leads}
-use Rattle.freelist.specs.Check.{meets}
-use Rattle.freelist.specs.Place.{place}
+use Rattle.freelist.specs.Place.{place, meets}
 use Rattle.freelist.specs.Link.{insertBytes, insertHead}
 use Rattle.freelist.specs.Sound.{sound, free}
 

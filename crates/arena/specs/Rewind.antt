@@ -12,8 +12,8 @@ use Rattle.records.specs.declared.Shape.{Shape}
 use Rattle.records.specs.declared.Header.{Header}
 use Rattle.records.specs.declared.Position.{Position}
 use Rattle.positions.specs.NewTop.{newTop}
-use Rattle.freelist.specs.Link.{sizes}
-use Rattle.freelist.specs.Check.{anyAbove}
+use Rattle.freelist.specs.Segs.{sizes}
+use Rattle.freelist.specs.Place.{anyAbove}
 use Rattle.freelist.specs.Sound.{sound, free}
 
 -- 01: discard 1, 4; empties the list, adds the sum of data sizes to discarded and returns the sum; None returns 0. No buffer byte changes

@@ -7,8 +7,8 @@ use Prim.Native.Nat.{ℕ, _-_, _≤_, _<_}
 use native.Mathlib.Omega.{arith}
 use borrow.Author.Tests.{not-true}
 use Rattle.records.proofs.Facts.{both}
-use Rattle.freelist.specs.Segs.{Seg, All, Pairwise, Apart, InRange, EndsBy, segAt, nextAt, endOf}
-use Rattle.freelist.specs.Check.{passed, meets}
+use Rattle.freelist.specs.Segs.{Seg, All, Pairwise, Apart, InRange, EndsBy, segAt, nextAt, endOf, passed}
+use Rattle.freelist.specs.Place.{meets}
 use Rattle.freelist.specs.Split.{apartb}
 use Rattle.freelist.proofs.Listing.{all-map}
 use Rattle.freelist.proofs.Meets.{apart-sym, apart-all, meets-none}

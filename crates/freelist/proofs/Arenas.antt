@@ -20,8 +20,7 @@ use Rattle.records.specs.declared.Shape.{Shape}
 use Rattle.records.specs.declared.Header.{Header}
 use Rattle.records.proofs.Facts.{both, head-facts, facts-head}
 use Rattle.records.proofs.Rules.{data-past}
-use Rattle.freelist.specs.Segs.{Seg, Run, All, Pairwise, Apart, InRange, EndsBy, Listed}
-use Rattle.freelist.specs.Link.{sizes}
+use Rattle.freelist.specs.Segs.{Seg, Run, All, Pairwise, Apart, InRange, EndsBy, Listed, sizes}
 use Rattle.freelist.specs.Sound.{firstOf, listSound, sound, freeFrom, free, Disjoint, InOrder, Sound}
 use Rattle.freelist.proofs.Listing.{all-map, pairs-map}
 use Rattle.freelist.proofs.Meets.{apart-bytes, bytes-apart}

@@ -16,8 +16,8 @@ use Rattle.records.specs.Setup.{limit}
 use Rattle.records.specs.declared.Order.{Order}
 use Rattle.records.specs.declared.Order.the-variants.{Optimistic, Pessimistic}
 use Rattle.records.proofs.Facts.{both, fails}
-use Rattle.freelist.specs.Segs.{Seg, Run, All, Pairwise, Apart, InRange, EndsBy, Leads, Good, Listed, segAt, nextAt, endOf}
-use Rattle.freelist.specs.Check.{followed, passed, kept, inRange, follows, mayFollow, goodRun, soundb}
+use Rattle.freelist.specs.Segs.{Seg, Run, All, Pairwise, Apart, InRange, EndsBy, Leads, Good, Listed, segAt, nextAt, endOf, followed, passed}
+use Rattle.freelist.specs.Check.{kept, inRange, follows, mayFollow, goodRun, soundb}
 use Rattle.freelist.specs.Split.{mayCome, rangedRun}
 use Rattle.freelist.proofs.Listing.{all-map, all-append, all-split, pairs-snoc, pairs-at}
 use Rattle.freelist.proofs.Meets.{apart-all, meets-none}

@@ -11,8 +11,7 @@ use native.Mathlib.Decide.{decLe}
 use native.Mathlib.Omega.{arith}
 use lib.ListN.{length, replicate, getD-replicate}
 use Rattle.records.proofs.Facts.{fails}
-use Rattle.freelist.specs.Segs.{Seg, All, Pairwise, Apart, InRange, endOf}
-use Rattle.freelist.specs.Check.{passed}
+use Rattle.freelist.specs.Segs.{Seg, All, Pairwise, Apart, InRange, endOf, passed}
 use Rattle.freelist.specs.Split.{apartb}
 use Rattle.freelist.specs.Marks.{Touches, Free, markAt, Unset, Marked, Tells}
 use Rattle.freelist.proofs.Listing.{all-map, all-both, pairs-map}

@@ -14,8 +14,8 @@ use Rattle.words.proofs.Digits.{put-length, put-same, word-size, word-next}
 use Rattle.records.proofs.Facts.{pick-either}
 use Rattle.records.specs.declared.Order.{Order}
 use Rattle.freelist.specs.Segs.{Seg, Run, All, Pairwise, Apart, EndsBy, leads, nextAt, endOf}
-use Rattle.freelist.specs.Link.{startOf, lastOf, linkBytes, linkHead, Spotted, insertBytes, insertHead, removeBytes, removeHead, Inserted}
-use Rattle.freelist.specs.Place.{place}
+use Rattle.freelist.specs.Place.{place, startOf, lastOf, Spotted}
+use Rattle.freelist.specs.Link.{linkBytes, linkHead, insertBytes, insertHead, removeBytes, removeHead, Inserted}
 use Rattle.freelist.proofs.Listing.{all-map, all-split, all-sides, all-both, pairs-map, pairs-split}
 use Rattle.freelist.proofs.Meets.{apart-sym}
 use Rattle.freelist.proofs.Runs.{run-append, run-split, run-agree, run-start}

@@ -10,8 +10,8 @@ use native.Mathlib.Omega.{arith}
 use borrow.Author.Tests.{ltb-false, le-ltb}
 use lib.Dec.{ltb}
 use Rattle.words.proofs.Ranges.{Parted, parted-flip, parted-none}
-use Rattle.freelist.specs.Segs.{Seg, All, Apart, EndsBy, endOf}
-use Rattle.freelist.specs.Check.{shares, meets, anyAbove}
+use Rattle.freelist.specs.Segs.{Seg, All, Apart, EndsBy, endOf, shares}
+use Rattle.freelist.specs.Place.{meets, anyAbove}
 use Rattle.freelist.specs.Sound.{Disjoint}
 use Rattle.freelist.proofs.Listing.{all-map}
 use Rattle.freelist.proofs.Places.{any-none, none-any}

@@ -9,10 +9,9 @@ use native.Mathlib.Omega.{arith}
 use lib.ListN.{length}
 use Rattle.words.specs.Word.{endMark}
 use Rattle.records.specs.declared.Order.{Order}
-use Rattle.freelist.specs.Segs.{Seg, Run, All, segAt, nextAt, leads}
-use Rattle.freelist.specs.Check.{followed, passed, follows}
-use Rattle.freelist.specs.Place.{any}
-use Rattle.freelist.specs.Link.{startOf, lastOf, sizes}
+use Rattle.freelist.specs.Segs.{Seg, Run, All, segAt, nextAt, leads, followed, passed, sizes}
+use Rattle.freelist.specs.Place.{any, startOf, lastOf}
+use Rattle.freelist.specs.Check.{follows}
 
 module _ (w : ℕ → ℕ) where
   pub run-append : (p m q : ℕ) (a b : List Seg) → Run w p a m → Run w m b q → Run w p (a ++ b) q

@@ -11,10 +11,9 @@ use native.Mathlib.Omega.{arith}
 use lib.ListN.{length, take, drop, getD, length-drop}
 use lib.Seq.{take-at, drop-at}
 use Rattle.words.specs.Word.{wordAt, endMark}
-use Rattle.freelist.specs.Segs.{Seg, Run, All, EndsBy, segAt, nextAt}
-use Rattle.freelist.specs.Check.{followed, passed}
-use Rattle.freelist.specs.Place.{place}
-use Rattle.freelist.specs.Link.{startOf, lastOf, linkBytes, linkHead, removeBytes, removeHead, Stands, Spotted, Removed}
+use Rattle.freelist.specs.Segs.{Seg, Run, All, EndsBy, segAt, nextAt, followed, passed}
+use Rattle.freelist.specs.Place.{place, startOf, lastOf, Stands, Spotted}
+use Rattle.freelist.specs.Link.{linkBytes, linkHead, removeBytes, removeHead, Removed}
 use Rattle.freelist.proofs.Listing.{all-append, all-sides}
 use Rattle.freelist.proofs.Links.{last-in, start-small}
 use Rattle.freelist.proofs.Places.{place-past}

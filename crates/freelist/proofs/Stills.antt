@@ -12,7 +12,8 @@ use Rattle.words.proofs.Digits.{put-length}
 use Rattle.words.proofs.Stills.{Still, put-still}
 use Rattle.records.proofs.Facts.{pick-either}
 use Rattle.freelist.specs.Segs.{Seg, All, EndsBy, endOf}
-use Rattle.freelist.specs.Link.{startOf, lastOf, linkBytes, insertBytes, removeBytes}
+use Rattle.freelist.specs.Place.{startOf, lastOf}
+use Rattle.freelist.specs.Link.{linkBytes, insertBytes, removeBytes}
 use Rattle.freelist.proofs.Listing.{all-map, all-sides}
 use Rattle.freelist.proofs.Meets.{OffSeg}
 use Rattle.freelist.proofs.Links.{last-holds, last-in}

@@ -19,10 +19,9 @@ use Rattle.records.specs.declared.Policy.the-variants.{None, Ordered}
 use Rattle.records.specs.declared.Shape.{Shape}
 use Rattle.records.specs.declared.Header.{Header}
 use Rattle.records.proofs.Facts.{head-facts}
-use Rattle.freelist.specs.Segs.{Seg, Run, All, Pairwise, Apart, InRange}
-use Rattle.freelist.specs.Check.{followed, passed, Walked}
+use Rattle.freelist.specs.Segs.{Seg, Run, All, Pairwise, Apart, InRange, followed, passed}
 use Rattle.freelist.specs.Sound.{firstOf, sound, free, surveyed}
-use Rattle.freelist.specs.Split.{rangedRun, walkFrom, apartb}
+use Rattle.freelist.specs.Split.{rangedRun, walkFrom, apartb, Walked}
 use Rattle.freelist.specs.declared.Finding.{Finding}
 use Rattle.freelist.specs.declared.Finding.the-variants.{Sound, Unsound}
 use Rattle.freelist.proofs.Listing.{all-map}

@@ -11,8 +11,7 @@ use borrow.Author.Tests.{leb-true, leb-false, le-leb}
 use lib.Dec.{leb}
 use lib.ListN.{length}
 use Rattle.words.proofs.Ranges.{Parted}
-use Rattle.freelist.specs.Segs.{Seg, All, Pairwise, Apart, InRange, endOf}
-use Rattle.freelist.specs.Link.{sizes}
+use Rattle.freelist.specs.Segs.{Seg, All, Pairwise, Apart, InRange, endOf, sizes}
 use Rattle.freelist.specs.Place.{place, insertAt}
 use Rattle.freelist.proofs.Listing.{all-map, all-both, pairs-map}
 use Rattle.freelist.proofs.Places.{all-insert, sorted-insert, So}

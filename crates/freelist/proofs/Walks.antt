@@ -13,9 +13,9 @@ use lib.Dec.{eqb}
 use lib.ListN.{length}
 use Rattle.words.specs.Word.{wordAt, endMark}
 use Rattle.words.specs.Pick.{pick}
-use Rattle.freelist.specs.Segs.{Seg, segAt, nextAt, leads}
-use Rattle.freelist.specs.Check.{followed, passed, kept, inRange, follows, Walked}
-use Rattle.freelist.specs.Split.{mayCome, rangedRun}
+use Rattle.freelist.specs.Segs.{Seg, segAt, nextAt, leads, followed, passed}
+use Rattle.freelist.specs.Check.{kept, inRange, follows}
+use Rattle.freelist.specs.Split.{mayCome, rangedRun, Walked}
 use Rattle.records.specs.declared.Order.{Order}
 use Rattle.freelist.proofs.Runs.{passed-snoc, followed-suc, length-passed, passed-follows}
 use Rattle.freelist.proofs.Checks.{come-no-range, come-no-order, come-yes}

@@ -1,42 +1,15 @@
 -- The soundness check of a list as a computation, node by node: the longest run of nodes that is good by itself, and whether it stops at the end mark.
 -- Document 01, 'Words, nodes and a sound arena'.
-use mathlib.Core.Path.{_≡_}
 use mathlib.Core.Bool.{Bool, true, _&&_, not}
 use mathlib.Core.List.{List, [], _∷_, _++_}
-use Prim.Native.Nat.{ℕ, zero, suc, _/_, _%_, min, max}
-use lib.Dec.{leb, ltb, eqb}
+use Prim.Native.Nat.{ℕ, zero, suc, _/_, _%_}
+use lib.Dec.{leb, eqb}
 use lib.ListN.{length}
 use Rattle.words.specs.Word.{wordAt, endMark}
 use Rattle.words.specs.Pick.{pick}
 use Rattle.records.specs.declared.Order.{Order}
-use Rattle.freelist.specs.Segs.{Seg, endOf, segAt, nextAt, leads}
-use Rattle.freelist.specs.Place.{any}
-
--- following next n times from p: where the walk stands then, and the segments that it passed
-abbrev pub followed : (ℕ → ℕ) → ℕ → ℕ → ℕ
-followed w zero p = p
-followed w (suc n) p = followed w n (nextAt w p)
-
-abbrev pub passed : (ℕ → ℕ) → ℕ → ℕ → List Seg
-passed w zero p = []
-passed w (suc n) p = segAt w p ∷ passed w n (nextAt w p)
-
--- what a walk from head tells: it passed these segments, so many, and stands at stop
-pub record Walked (l : List ℕ) (head : ℕ) (segs : List Seg) (count stop : ℕ) : Type 0 where
-  pub counted : count ≡ length segs
-  pub stops : stop ≡ followed (wordAt l) count head
-
--- the bytes from a up to b and those from c up to d have one in common
-abbrev pub shares : ℕ → ℕ → ℕ → ℕ → Bool
-shares a b c d = ltb (max a c) (min b d)
-
--- 01, refusal 7: whose bytes meet a free segment's, for the bytes from `from` up to `to`
-abbrev pub meets : List Seg → ℕ → ℕ → Bool
-meets segs from to = any (λ s. shares (s .offset) (endOf s) from to) segs
-
--- 01, refusal 8: whose new top lies below the end of a free segment
-abbrev pub anyAbove : ℕ → List Seg → Bool
-anyAbove top segs = any (λ s. ltb top (endOf s)) segs
+use Rattle.freelist.specs.Segs.{Seg, endOf, segAt, nextAt, followed, leads}
+use Rattle.freelist.specs.Place.{meets}
 
 -- 01: a multiple of 8, at least the data offset, has s >= 1 and ends at or below allocated
 unfoldable pub inRange : ℕ → ℕ → Seg → Bool

@@ -2,7 +2,7 @@
 pub mod Segs
 pub mod Place
 pub mod Check
-pub mod Link
-pub mod Sound
 pub mod Split
 pub mod Marks
+pub mod Sound
+pub mod Link

@@ -1,11 +1,12 @@
--- Segments, the walk along their nodes, and what a sound list asks of them. Document 01, 'Words, nodes and a sound arena'.
+-- Segments, the walk along their nodes, what a sound list asks of them, and the sum of their sizes.
+-- Document 01, 'Words, nodes and a sound arena' and 'Giving back, discarding, rewinding'.
 -- `w` gives the word at an offset: it is `wordAt l` for the bytes l.
 use mathlib.Core.Path.{_≡_}
 use mathlib.Core.Logic.{_⊎_, _≢_}
 use mathlib.Core.Bool.{Bool, true}
 use mathlib.Core.List.{List, [], _∷_}
-use Prim.Native.Nat.{ℕ, _+_, _%_, _≤_, _<_}
-use lib.Dec.{leb}
+use Prim.Native.Nat.{ℕ, zero, suc, _+_, _%_, min, max, _≤_, _<_}
+use lib.Dec.{leb, ltb}
 use lib.ListN.{length}
 use Rattle.words.specs.Word.{wordAt, sizeHalf, nextHalf, endMark}
 use Rattle.records.specs.Setup.{limit}
@@ -29,6 +30,15 @@ segAt w p = record { offset = p; size = sizeHalf (w p) }
 
 abbrev pub nextAt : (ℕ → ℕ) → ℕ → ℕ
 nextAt w p = nextHalf (w p)
+
+-- following next n times from p: where the walk stands then, and the segments that it passed
+abbrev pub followed : (ℕ → ℕ) → ℕ → ℕ → ℕ
+followed w zero p = p
+followed w (suc n) p = followed w n (nextAt w p)
+
+abbrev pub passed : (ℕ → ℕ) → ℕ → ℕ → List Seg
+passed w zero p = []
+passed w (suc n) p = segAt w p ∷ passed w n (nextAt w p)
 
 -- following next from p passes exactly these segments and stands at q then; 01's 'following next reaches the end mark' has the end mark for q
 abbrev pub Run : (ℕ → ℕ) → ℕ → List Seg → ℕ → Type 0
@@ -59,6 +69,10 @@ EndsBy n s = endOf s ≤ n
 abbrev pub Apart : Seg → Seg → Type 0
 Apart s t = (endOf s ≤ t .offset) ⊎ (endOf t ≤ s .offset)
 
+-- the bytes from a up to b and those from c up to d have one in common
+abbrev pub shares : ℕ → ℕ → ℕ → ℕ → Bool
+shares a b c d = ltb (max a c) (min b d)
+
 -- 01: sizes never fall along a pessimistic list and never rise along an optimistic one: s may stand before t
 abbrev pub leads : Order → Seg → Seg → Bool
 leads Optimistic s t = leb (t .size) (s .size)
@@ -66,6 +80,11 @@ leads Pessimistic s t = leb (s .size) (t .size)
 
 abbrev pub Leads : Order → Seg → Seg → Type 0
 Leads o s t = leads o s t ≡ true
+
+-- 01: the sum of data sizes
+abbrev pub sizes : List Seg → ℕ
+sizes [] = 0
+sizes (s ∷ ss) = s .size + sizes ss
 
 -- these segments may be the whole list of an arena whose data starts at start and ends at top
 pub record Good (start top : ℕ) (o : Order) (segs : List Seg) : Type 0 where

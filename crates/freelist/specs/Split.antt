@@ -1,4 +1,5 @@
 -- The check of a list in two parts: a walk that looks at each node and at the order of two neighbours, and whether the segments that it passed are apart.
+use mathlib.Core.Path.{_≡_}
 use mathlib.Core.Bool.{Bool, true, _&&_, not}
 use mathlib.Core.List.{List, [], _∷_}
 use Prim.Native.Nat.{ℕ, _/_}
@@ -7,8 +8,14 @@ use Rattle.words.specs.Word.{wordAt}
 use Rattle.records.specs.declared.Order.{Order}
 use Rattle.records.specs.declared.Policy.{Policy}
 use Rattle.records.specs.declared.Policy.the-variants.{None, Ordered}
-use Rattle.freelist.specs.Segs.{Seg, endOf}
-use Rattle.freelist.specs.Check.{meets, inRange, follows, kept}
+use Rattle.freelist.specs.Segs.{Seg, endOf, followed}
+use Rattle.freelist.specs.Place.{meets}
+use Rattle.freelist.specs.Check.{inRange, follows, kept}
+
+-- what a walk from head tells: it passed these segments, so many, and stands at stop
+pub record Walked (l : List ℕ) (head : ℕ) (segs : List Seg) (count stop : ℕ) : Type 0 where
+  pub counted : count ≡ length segs
+  pub stops : stop ≡ followed (wordAt l) count head
 
 -- s may be the next node after these, as far as its place and the order go
 unfoldable pub mayCome : ℕ → ℕ → Order → List Seg → Seg → Bool

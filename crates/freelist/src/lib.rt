@@ -11,12 +11,12 @@ ghost use mathlib.Core.Bool.{true};
 ghost use Prim.Native.Nat.{_+_, _-_, _*_, _^_, min, _≤_, _<_};
 ghost use lib.ListN.{length, replicate};
 ghost use Rattle.words.specs.Word.{wordAt, endMark};
-ghost use Rattle.freelist.specs.Segs.{leads, segAt, All, Pairwise, EndsBy, InRange, Run};
-ghost use Rattle.freelist.specs.Check.{followed, passed, inRange, shares, meets, anyAbove, Walked};
-ghost use Rattle.freelist.specs.Place.{any};
-ghost use Rattle.freelist.specs.Link.{linkBytes, linkHead, sizes, passes, Stands, Spotted, Inserted, Removed};
+ghost use Rattle.freelist.specs.Segs.{leads, segAt, All, Pairwise, EndsBy, InRange, Run, followed, passed, shares, sizes};
+ghost use Rattle.freelist.specs.Check.{inRange};
+ghost use Rattle.freelist.specs.Place.{any, meets, anyAbove, passes, Stands, Spotted};
+ghost use Rattle.freelist.specs.Link.{linkBytes, linkHead, Inserted, Removed};
 ghost use Rattle.freelist.specs.Sound.{sound, surveyed};
-ghost use Rattle.freelist.specs.Split.{rangedRun, walkFrom, apartb};
+ghost use Rattle.freelist.specs.Split.{rangedRun, walkFrom, apartb, Walked};
 ghost use Rattle.freelist.specs.Marks.{Free, Unset, Marked, Tells};
 
 // The end mark: where a list ends, and what stands before its first node.

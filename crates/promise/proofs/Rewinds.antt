@@ -16,7 +16,7 @@ use Rattle.records.specs.declared.Header.{Header}
 use Rattle.records.specs.declared.Block.{Block}
 use Rattle.records.specs.declared.Position.{Position}
 use Rattle.positions.proofs.Tops.{new-top-between}
-use Rattle.freelist.specs.Check.{anyAbove}
+use Rattle.freelist.specs.Place.{anyAbove}
 use Rattle.freelist.specs.Sound.{sound}
 use Rattle.freelist.proofs.Listing.{all-map}
 use Rattle.freelist.proofs.Meets.{above-none}

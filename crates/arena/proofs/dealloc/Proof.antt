@@ -8,7 +8,7 @@ use native.Mathlib.Omega.{arith}
 use borrow.Author.Needs.{needs}
 use borrow.Author.Tests.{ltb-true, ltb-false}
 use denote.Ref.{now}
-use Rattle.freelist.specs.Check.{meets}
+use Rattle.freelist.specs.Place.{meets}
 use Rattle.freelist.specs.Sound.{free}
 use Rattle.freelist.proofs.Surveys.{found-unsound}
 use Rattle.arena.proofs.Lists.{Counted, found-counted}

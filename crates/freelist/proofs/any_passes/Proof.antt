@@ -5,10 +5,8 @@ use native.Mathlib.Omega.{arith}
 use denote.Ref.{now}
 use lib.ListN.{length}
 use Rattle.words.specs.Word.{wordAt}
-use Rattle.freelist.specs.Segs.{All, EndsBy, segAt}
-use Rattle.freelist.specs.Check.{passed}
-use Rattle.freelist.specs.Place.{any}
-use Rattle.freelist.specs.Link.{passes}
+use Rattle.freelist.specs.Segs.{All, EndsBy, segAt, passed}
+use Rattle.freelist.specs.Place.{any, passes}
 use Rattle.freelist.proofs.Runs.{all-pop, any-hit, any-miss, any-left}
 use Rattle.freelist.proofs.any_passes.Statement.{statement}
 use Rattle.freelist.proofs.any_passes.Tie as tie

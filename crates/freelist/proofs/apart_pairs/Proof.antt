@@ -6,8 +6,8 @@ use native.Mathlib.Omega.{arith}
 use denote.Ref.{now}
 use lib.ListN.{length}
 use Rattle.words.specs.Word.{wordAt}
-use Rattle.freelist.specs.Segs.{All, EndsBy, segAt, nextAt, endOf}
-use Rattle.freelist.specs.Check.{passed, meets}
+use Rattle.freelist.specs.Segs.{All, EndsBy, segAt, nextAt, endOf, passed}
+use Rattle.freelist.specs.Place.{meets}
 use Rattle.freelist.specs.Split.{apartb}
 use Rattle.freelist.proofs.Runs.{all-pop}
 use Rattle.freelist.proofs.Aparts.{apart-hit, apart-miss, apart-left}

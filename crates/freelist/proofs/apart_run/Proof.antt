@@ -6,8 +6,7 @@ use native.Mathlib.Omega.{arith}
 use denote.Ref.{now}
 use lib.ListN.{length}
 use Rattle.words.specs.Word.{wordAt}
-use Rattle.freelist.specs.Segs.{Seg, All, EndsBy}
-use Rattle.freelist.specs.Check.{passed}
+use Rattle.freelist.specs.Segs.{Seg, All, EndsBy, passed}
 use Rattle.freelist.proofs.Aparts.{ranged-ends}
 use Rattle.freelist.proofs.Claims.{marks-apart}
 use Rattle.freelist.proofs.apart_run.Statement.{statement}

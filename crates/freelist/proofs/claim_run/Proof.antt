@@ -10,8 +10,7 @@ use denote.Ref.{now}
 use borrow.Author.Tests.{not-true, not-false}
 use lib.ListN.{length}
 use Rattle.words.specs.Word.{wordAt}
-use Rattle.freelist.specs.Segs.{All, Pairwise, EndsBy, segAt, nextAt, endOf}
-use Rattle.freelist.specs.Check.{passed}
+use Rattle.freelist.specs.Segs.{All, Pairwise, EndsBy, segAt, nextAt, endOf, passed}
 use Rattle.freelist.specs.Marks.{Free}
 use Rattle.freelist.proofs.Runs.{passed-pop, all-pop}
 use Rattle.freelist.proofs.Claims.{Claimable, tells-yes, tells-no, claim-hit, claim-goes, claim-left, new-claimable}

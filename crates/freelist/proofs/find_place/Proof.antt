@@ -6,7 +6,7 @@ use denote.Ref.{now}
 use lib.ListN.{length}
 use Rattle.words.specs.Word.{wordAt}
 use Rattle.freelist.specs.Segs.{EndsBy, segAt}
-use Rattle.freelist.specs.Link.{passes}
+use Rattle.freelist.specs.Place.{passes}
 use Rattle.freelist.proofs.Runs.{all-pop}
 use Rattle.freelist.proofs.Seeks.{Seeking, seek-begins, seek-hit, seek-miss, seek-none}
 use Rattle.freelist.proofs.find_place.Statement.{statement}

@@ -6,7 +6,7 @@ use native.Mathlib.Omega.{arith}
 use denote.Ref.{now}
 use lib.ListN.{length}
 use Rattle.words.specs.Word.{wordAt}
-use Rattle.freelist.specs.Check.{passed}
+use Rattle.freelist.specs.Segs.{passed}
 use Rattle.freelist.proofs.Runs.{length-passed}
 use Rattle.freelist.proofs.Seeks.{prev-in, next-in, removed}
 use Rattle.freelist.proofs.remove.Statement.{statement}

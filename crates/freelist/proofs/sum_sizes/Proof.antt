@@ -6,9 +6,7 @@ use native.Mathlib.Omega.{arith}
 use denote.Ref.{now}
 use lib.ListN.{length}
 use Rattle.words.specs.Word.{wordAt}
-use Rattle.freelist.specs.Segs.{All, EndsBy, segAt, nextAt}
-use Rattle.freelist.specs.Check.{passed}
-use Rattle.freelist.specs.Link.{sizes}
+use Rattle.freelist.specs.Segs.{All, EndsBy, segAt, nextAt, passed, sizes}
 use Rattle.freelist.proofs.Runs.{all-pop, sizes-pop, sizes-left}
 use Rattle.freelist.proofs.sum_sizes.Statement.{statement}
 use Rattle.freelist.proofs.sum_sizes.Tie as tie

@@ -8,8 +8,7 @@ use native.Mathlib.Omega.{arith}
 use denote.Ref.{now}
 use borrow.Author.Tests.{not-true, not-false}
 use Rattle.words.specs.Word.{wordAt}
-use Rattle.freelist.specs.Segs.{Seg, Pairwise}
-use Rattle.freelist.specs.Check.{passed}
+use Rattle.freelist.specs.Segs.{Seg, Pairwise, passed}
 use Rattle.freelist.specs.Marks.{Free}
 use Rattle.freelist.proofs.Claims.{tells-yes, tells-no, free-part, free-join, free-none}
 use Rattle.freelist.proofs.windows_apart.Statement.{statement}
