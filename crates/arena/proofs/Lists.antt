@@ -10,7 +10,7 @@ use Rattle.records.specs.declared.Shape.{Shape}
 use Rattle.records.specs.declared.Header.{Header}
 use Rattle.freelist.specs.Segs.{Seg, Run, All, EndsBy, followed, passed}
 use Rattle.freelist.specs.Sound.{firstOf, sound, free, surveyed}
-use Rattle.freelist.specs.declared.Finding.the-variants.{Sound}
+use Rattle.freelist.specs.declared.sound.Finding.the-variants.{Sound}
 use Rattle.freelist.proofs.Runs.{run-followed, run-passed}
 use Rattle.freelist.proofs.Arenas.{sound-run, sound-ends}
 use Rattle.freelist.proofs.Surveys.{found-sound}

@@ -24,7 +24,7 @@ use Rattle.freelist.specs.Segs.{Seg, InRange, Listed, passed}
 use Rattle.freelist.specs.Place.{removeAt}
 use Rattle.freelist.specs.Link.{removeBytes, removeHead, Inserted, Removed}
 use Rattle.freelist.specs.Sound.{firstOf, sound, free}
-use Rattle.freelist.specs.declared.Spot.{Spot}
+use Rattle.freelist.specs.declared.place.Spot.{Spot}
 use Rattle.freelist.proofs.Places.{all-at, length-removed}
 use Rattle.freelist.proofs.Links.{run-small, inserted-small}
 use Rattle.freelist.proofs.Seeks.{run-node}

@@ -24,8 +24,8 @@ use Rattle.requests.proofs.Plans.{top-met, top-past}
 use Rattle.freelist.specs.Segs.{Seg, Run}
 use Rattle.freelist.specs.Place.{Spotted, passes}
 use Rattle.freelist.specs.Sound.{sound, free}
-use Rattle.freelist.specs.declared.Spot.{Spot}
-use Rattle.freelist.specs.declared.Test.the-variants.{Room}
+use Rattle.freelist.specs.declared.place.Spot.{Spot}
+use Rattle.freelist.specs.declared.place.Test.the-variants.{Room}
 use Rattle.freelist.proofs.Places.{place-passes}
 use Rattle.arena.specs.Take.{taking, fromTop, pastTop, fromList, look, headFit, firstFit, serve, found, missed, nowhere}
 use Rattle.arena.specs.Look.{endAtTop, Looked}

@@ -15,7 +15,7 @@ use Rattle.records.specs.declared.Request.{Request}
 use Rattle.requests.specs.Request.{topEnd, need, listBlock}
 use Rattle.freelist.specs.Segs.{Seg}
 use Rattle.freelist.specs.Place.{Stands}
-use Rattle.freelist.specs.declared.Spot.{Spot}
+use Rattle.freelist.specs.declared.place.Spot.{Spot}
 use Rattle.arena.specs.Take.{look, found, missed, nowhere}
 use Rattle.arena.specs.declared.Lookup.{Lookup}
 use Rattle.arena.specs.declared.Lookup.the-variants.{Hit, Miss}

@@ -8,7 +8,7 @@ pub mod Meets
 pub mod Checks
 pub mod Walks
 pub mod Aparts
-pub mod Marks
+pub mod Bits
 pub mod Claims
 pub mod Seeks
 pub mod Links

@@ -22,8 +22,8 @@ use Rattle.records.proofs.Facts.{head-facts}
 use Rattle.freelist.specs.Segs.{Seg, Run, All, Pairwise, Apart, InRange, followed, passed}
 use Rattle.freelist.specs.Sound.{firstOf, sound, free, surveyed}
 use Rattle.freelist.specs.Split.{rangedRun, walkFrom, apartb, Walked}
-use Rattle.freelist.specs.declared.Finding.{Finding}
-use Rattle.freelist.specs.declared.Finding.the-variants.{Sound, Unsound}
+use Rattle.freelist.specs.declared.sound.Finding.{Finding}
+use Rattle.freelist.specs.declared.sound.Finding.the-variants.{Sound, Unsound}
 use Rattle.freelist.proofs.Listing.{all-map}
 use Rattle.freelist.proofs.Runs.{run-passed, length-passed}
 use Rattle.freelist.proofs.Checks.{ranged-is-run, ranged-ranged, ranged-sorted, listed-ranged, listed-passed, listed-followed}

@@ -9,8 +9,8 @@ use lib.ListN.{take, drop}
 use Rattle.words.specs.Word.{endMark}
 use Rattle.words.specs.Pick.{pick}
 use Rattle.freelist.specs.Segs.{Seg, endOf, leads, shares}
-use Rattle.freelist.specs.declared.Test.{Test}
-use Rattle.freelist.specs.declared.Test.the-variants.{Place, Room, Meets, Above}
+use Rattle.freelist.specs.declared.place.Test.{Test}
+use Rattle.freelist.specs.declared.place.Test.the-variants.{Place, Room, Meets, Above}
 
 -- a test of a segment t
 -- 01: insert before the first node whose size is >= the new (pessimistic) or <= the new (optimistic): a new node precedes its equals

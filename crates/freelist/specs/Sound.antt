@@ -14,8 +14,8 @@ use Rattle.records.specs.declared.Shape.{Shape}
 use Rattle.records.specs.declared.Header.{Header}
 use Rattle.freelist.specs.Segs.{Seg, Covers, Run, All, Pairwise, InRange, Leads}
 use Rattle.freelist.specs.Check.{goodRun, soundb}
-use Rattle.freelist.specs.declared.Finding.{Finding}
-use Rattle.freelist.specs.declared.Finding as Found
+use Rattle.freelist.specs.declared.sound.Finding.{Finding}
+use Rattle.freelist.specs.declared.sound.Finding as Found
 
 -- the list's first node, the next half of the sentinel
 abbrev pub firstOf : Header → ℕ

@@ -24,7 +24,7 @@ use Rattle.records.specs.declared.Reply.{Reply}
 use Rattle.records.specs.declared.Begun.{Begun}
 use Rattle.positions.specs.NewTop.{newTop}
 use Rattle.freelist.specs.Sound.{sound, surveyed}
-use Rattle.freelist.specs.declared.Finding.{Finding}
+use Rattle.freelist.specs.declared.sound.Finding.{Finding}
 use Rattle.exports.specs.Crossing.{headerOf, shapeIn, crossed, crossing, opened, opening}
 use Rattle.exports.specs.declared.CShape.{CShape}
 use Rattle.exports.specs.declared.CAnswer.{CAnswer}
