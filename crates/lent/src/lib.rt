@@ -15,25 +15,25 @@ ghost use Rattle.arena.specs.Rewind.{rewinding};
 pub fn alloc_bytes(shape: Shape, header: &mut Header, buf: &mut [u8], size: u32) -> Answer
     ensures { λ r. ⌜ leaves (said r) (now (header .exit)) (now (buf .exit)) ≡ taking shape (now (header .entry)) (now (buf .entry)) (Bytes size) ⌝ }
 {
-    let reply = arena::alloc_bytes(shape, *header, buf, size);
-    *header = reply.header;
-    reply.answer
+    let taken = arena::alloc_bytes(shape, *header, buf, size);
+    *header = taken.header;
+    taken.answer
 }
 
 // A give-back of the memory range from offset on.
 pub fn dealloc(shape: Shape, header: &mut Header, buf: &mut [u8], offset: u32, size: u32) -> Answer
     ensures { λ r. ⌜ leaves (said r) (now (header .exit)) (now (buf .exit)) ≡ givingBack shape (now (header .entry)) (now (buf .entry)) offset size ⌝ }
 {
-    let reply = arena::dealloc(shape, *header, buf, offset, size);
-    *header = reply.header;
-    reply.answer
+    let given = arena::dealloc(shape, *header, buf, offset, size);
+    *header = given.header;
+    given.answer
 }
 
 // A rewind. The buffer is read, and no byte of it is written.
 pub fn rewind(shape: Shape, header: &mut Header, buf: &[u8], position: Position) -> Answer
     ensures { λ r. ⌜ leaves (said r) (now (header .exit)) (now (buf .entry)) ≡ rewinding shape (now (header .entry)) (now (buf .entry)) position ⌝ }
 {
-    let reply = arena::rewind(shape, *header, buf, position);
-    *header = reply.header;
-    reply.answer
+    let moved = arena::rewind(shape, *header, buf, position);
+    *header = moved.header;
+    moved.answer
 }
