@@ -37,7 +37,7 @@ use Rattle.freelist.specs.Segs.{Pairwise}
 use Rattle.freelist.specs.Check as C
 use Rattle.freelist.specs.Link as L
 use Rattle.freelist.specs.Sound as So
-use Rattle.freelist.specs.Sound.{Sound, sound, free, firstOf}
+use Rattle.freelist.specs.Sound.{Sound, free, firstOf}
 use Rattle.freelist.proofs.Arenas.{sound-iff}
 use Rattle.arena.specs.Take as T
 use Rattle.arena.specs.Give as G
