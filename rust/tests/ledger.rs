@@ -2,7 +2,7 @@
 
 mod common;
 
-use arena::{Arena, Block, Policy, Position, Refusal, Settings};
+use arena::{Arena, Policy, Position, Refusal, Settings};
 use common::{block, list};
 
 fn settings(policy: Policy, reserved: u32) -> Settings {
