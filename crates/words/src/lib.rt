@@ -1,5 +1,7 @@
 // Numbers and bytes: rounding to an alignment, node words of eight bytes, clearing. Nothing here knows of an arena.
 // Every `requires` is a bound that the callers, all of them in the crates above, show from their own tests.
+#![tactic(auto)]
+
 ghost use Rattle.std.specs.Prelude.{◌≡◌, ◌+◌, ◌*◌, ◌<◌, ◌≤◌, true, length, replicate};
 ghost use Rattle.words.specs.Align.{good_align};
 ghost use Rattle.words.specs.Round.{Rounded};
@@ -61,7 +63,7 @@ fn half(a: u8, b: u8, c: u8, d: u8) -> u32
 }
 
 // A node word in its two halves.
-#[derive(Drop)]
+#[derive(Clone, Copy)]
 pub struct Node {
     pub size: u32,
     pub next: u32,
