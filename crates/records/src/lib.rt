@@ -1,6 +1,8 @@
 // The arena's records. What is asked of them on numbers alone stands in a module beside its definitions in specs/: set_up,
 // head, rule (of segments), change (of a header), part (of the buffer); and counters, their readers. `said` of specs/Answer
 // gives document 01's number and values for each answer. The list in the bytes is the crate above.
+#![tactic(auto)]
+
 mod change;
 mod counters;
 mod head;
@@ -19,7 +21,7 @@ pub use set_up::{data_offset, defaults, policy_of, setup};
 pub const LIMIT: u32 = 1073741824;
 
 // How a free list is sorted, and which segment a request takes.
-#[derive(Drop)]
+#[derive(Clone, Copy)]
 pub enum Order {
     // Sizes never rise: a request takes the first, a largest.
     Optimistic,
@@ -28,7 +30,7 @@ pub enum Order {
 }
 
 // The policy. What the two lists share is written once, over the order.
-#[derive(Drop)]
+#[derive(Clone, Copy)]
 pub enum Policy {
     // No list: what is given back below the top is lost.
     None,
@@ -36,14 +38,14 @@ pub enum Policy {
 }
 
 // What a policy code names.
-#[derive(Drop)]
+#[derive(Clone, Copy)]
 pub enum Named {
     Known(Policy),
     Unknown,
 }
 
 // What setup is asked for. The capacity is the buffer's length.
-#[derive(Drop)]
+#[derive(Clone, Copy)]
 pub struct Settings {
     // The bytes at the buffer's start that are the caller's own.
     pub reserved: u32,
@@ -59,7 +61,7 @@ pub struct Settings {
 }
 
 // What setup fixes. A caller keeps it beside the header and hands it back to every call.
-#[derive(Drop)]
+#[derive(Clone, Copy)]
 pub struct Shape {
     // The buffer's length.
     pub cap: u32,
@@ -72,7 +74,7 @@ pub struct Shape {
 }
 
 // What the calls change.
-#[derive(Drop)]
+#[derive(Clone, Copy)]
 pub struct Header {
     // A node word: its next half is the offset of the list's first node, and its size half the end mark.
     pub sentinel: u64,
@@ -83,14 +85,14 @@ pub struct Header {
     pub discarded: u32,
 }
 
-#[derive(Drop)]
+#[derive(Clone, Copy)]
 pub struct Arena {
     pub shape: Shape,
     pub header: Header,
 }
 
 // What setup answers.
-#[derive(Drop)]
+#[derive(Clone, Copy)]
 pub enum Begun {
     // A fresh arena.
     Ready(Arena),
@@ -102,7 +104,7 @@ pub enum Begun {
 
 // A block's whole record: give back its memory range, read and write its usable range. The usable range may pass the memory
 // range by up to eight bytes.
-#[derive(Drop)]
+#[derive(Clone, Copy)]
 pub struct Block {
     pub memory_offset: u32,
     pub memory_size: u32,
@@ -112,7 +114,7 @@ pub struct Block {
 }
 
 // What a request asks for. An alignment is a power of two from 1 to 4,096, and a size given with one a multiple of it.
-#[derive(Drop)]
+#[derive(Clone, Copy)]
 pub enum Request {
     // So many bytes.
     Bytes(u32),
@@ -123,7 +125,7 @@ pub enum Request {
 }
 
 // Where a rewind puts the top, never below the data offset nor past the end.
-#[derive(Drop)]
+#[derive(Clone, Copy)]
 pub enum Position {
     // So many bytes from the buffer's start.
     Start(u32),
@@ -135,7 +137,7 @@ pub enum Position {
 
 // What a call answers. A refusal changed neither the header nor a byte. `said` in specs/ gives document 01's number and
 // values for each case.
-#[derive(Drop)]
+#[derive(Clone, Copy)]
 pub enum Answer {
     // A request: the block that it has.
     Granted(Block),
@@ -164,14 +166,14 @@ pub enum Answer {
 }
 
 // A call's answer and the header afterwards.
-#[derive(Drop)]
+#[derive(Clone, Copy)]
 pub struct Reply {
     pub answer: Answer,
     pub header: Header,
 }
 
 // What the segment rule makes of a range: a node at `offset` with `size` bytes of data, or nothing.
-#[derive(Drop)]
+#[derive(Clone, Copy)]
 pub enum Segment {
     At { offset: usize, size: usize },
     Refused,

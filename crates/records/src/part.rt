@@ -30,8 +30,8 @@ pub fn bytes(buf: &[u8], block: Block) -> &[u8]
 
 // A block's usable bytes, to write: the buffer is spent for as long as the part is held.
 pub fn bytes_mut(buf: &mut [u8], block: Block) -> &mut [u8]
-    ensures result_value { result.now ≡ usable_part buf.old block }
-    ensures ref_ptr_value { result.ref_ptr ≡ usable_place buf.old buf.entry.ref_ptr block }
+    ensures contents { result.now ≡ usable_part buf.old block }
+    ensures place { result.ref_ptr ≡ usable_place buf.old buf.entry.ref_ptr block }
 {
     let at = block.usable_offset as usize;
     let n = block.usable_size as usize;

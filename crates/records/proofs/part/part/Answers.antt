@@ -1,0 +1,13 @@
+-- `records::part::part` meets its contract: the cases of `part_of`. Past the buffer the part is empty, within it it is what is lent. Assumes nothing.
+use native.Mathlib.Omega.{arith}
+use Rattle.records.proofs.Parts.{part_in, part_out}
+use Rattle.records.proofs.part.part.Goals as goal
+
+pub returns-then-buf-at : goal.returns-then-buf-at
+returns-then-buf-at c = part_out _ _ _ (omega arith)
+
+pub returns-then-buf-at-2 : goal.returns-then-buf-at-2
+returns-then-buf-at-2 c = part_out _ _ _ (omega arith)
+
+pub returns : goal.returns
+returns c = part_in _ _ _ (omega arith)
