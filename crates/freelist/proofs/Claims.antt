@@ -1,7 +1,7 @@
 -- Marks find the shared bytes. Segments that claim their marks in turn share no cell that has a mark; windows that follow each other make one; and segments
 -- in range share a byte exactly where they share a cell.
 -- Assumes nothing.
-use mathlib.Core.Path.{◌≡◌, refl, sym, ap, ◌∙◌}
+use mathlib.Core.Path.{◌≡◌, refl, sym, subst, ap, ◌∙◌}
 use mathlib.Core.Logic.{◌↔◌, inl, inr}
 use mathlib.Core.Bool.{Bool, true, false}
 use mathlib.Core.List.{List, [], ◌∷◌}
@@ -74,7 +74,7 @@ module _ (base : ℕ) (were : List ℕ) (s : Seg) (a b : ℕ) (from : a ≡ min 
           up h =
               let first = all_map (Blank base are) (Blank base were) (λ t x. (after_blank t x).0) ss h.0 in
               let free = all_map (Blank base are) (Free base (base + length were * 64) s) (λ t x. (after_blank t x).1) ss h.0 in
-              rw parts ((unset_blank u, first), (free, rw (← same) h.1))
+              rw parts ((unset_blank u, first), (free, subst (λ (n : ℕ). Pairwise (Free base (base + n * 64)) ss) same h.1))
 
 -- no node is left
 pub claim_left : (w : ℕ → ℕ) (base : ℕ) (marks : List ℕ) (k p : ℕ) → k ≤ 0 → Claimable base marks (passed w k p)

@@ -1,6 +1,6 @@
 -- The run of nodes after one is put in or taken out: the list is cut at the place into a and b, the last node of a is linked anew, and the two runs are joined again.
 -- First over any reading of words (`w` before, `v` after), then in bytes. Assumes nothing.
-use mathlib.Core.Path.{◌≡◌, refl, sym, ap, ◌∙◌}
+use mathlib.Core.Path.{◌≡◌, refl, sym, subst, ap, ◌∙◌}
 use mathlib.Core.Logic.{◌≢◌}
 use mathlib.Core.List.{List, [], ◌∷◌, ◌++◌}
 use Prim.Native.Nat.{ℕ, suc, ◌+◌, ◌^◌, ◌≤◌, ◌<◌}
@@ -80,6 +80,15 @@ length_link l (s ∷ ss) x e =
     pick_either (λ (m : List ℕ). length m ≡ length l) (eqb (last_of (s ∷ ss)) end_mark) _ _ (λ _. refl)
     (λ _. put_length l (last_of (s ∷ ss)) _ (last_in (length l) s ss e))
 
+-- the link after a node
+link_bytes_after : (l : List ℕ) (prev x : ℕ) → (prev ≡ end_mark → ⊥) → link_bytes l prev x ≡ put_word l prev (node_word (size_half (word_at l prev)) x)
+unfolding link_bytes
+link_bytes_after l prev x h = rw (ne_eqb prev end_mark h)
+
+link_head_after : (head prev x : ℕ) → (prev ≡ end_mark → ⊥) → link_head head prev x ≡ head
+unfolding link_head
+link_head_after head prev x h = rw (ne_eqb prev end_mark h)
+
 -- the link after a run set to x
 module _ (l : List ℕ) (x : ℕ) (small : x < 4294967296) (short : length l < 4294967296) where
   pub link_run : (head m : ℕ) (ss : List Seg) → All (EndsBy (length l)) ss → Pairwise Apart ss → Run (word_at l) head ss m → Run (word_at (link_bytes l (last_of ss) x)) (link_head head (last_of ss) x) ss x
@@ -90,9 +99,11 @@ module _ (l : List ℕ) (x : ℕ) (small : x < 4294967296) (short : length l < 4
       let k = last_in (length l) s ss e in
       let y = node_word (size_half (word_at l last)) x in
       let z : size_half (word_at l last) < 4294967296 = last_holds (λ o. size_half (word_at l o) < 4294967296) s ss (run_sizes (word_at l) (length l) head m (s ∷ ss) short e r) in
-      rw (ne_eqb last end_mark (last_not_end (word_at l) head m s ss r))
+      let some = last_not_end (word_at l) head m s ss r in
+      subst (λ (k : List ℕ). Run (word_at k) (link_head head last x) (s ∷ ss) x) (sym (link_bytes_after l last x some))
+      (subst (λ (n : ℕ). Run (word_at (put_word l last y)) n (s ∷ ss) x) (sym (link_head_after head last x some))
       (run_relinked (word_at l) (word_at (put_word l last y)) last x small (put_same l last y k (omega arith)) (put_outside l last y k) head m s ss
-      (pairs_map Apart (λ s t. Far t.offset s) (EndsBy (length l)) (λ s t a b. far_of s t) (s ∷ ss) e f) refl r)
+      (pairs_map Apart (λ s t. Far t.offset s) (EndsBy (length l)) (λ s t a b. far_of s t) (s ∷ ss) e f) refl r))
 
   -- and a run of nodes apart from these is as it was
   pub link_others : (head m p q : ℕ) (ss ts : List Seg) → All (EndsBy (length l)) ss → All (λ s. All (Apart s) ts) ss → Run (word_at l) head ss m → Run (word_at l) p ts q → Run (word_at (link_bytes l (last_of ss) x)) p ts q

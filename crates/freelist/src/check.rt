@@ -44,8 +44,8 @@ pub fn follows_last(
     p: usize,
     size: usize,
 ) -> bool
-    ensures value { count ≡ 0 → result ≡ true }
-    ensures value_2 { 0 < count → result ≡ leads order (record { offset = prev; size = last }) (record { offset = p; size = size }) }
+    ensures first { count ≡ 0 → result ≡ true }
+    ensures later { 0 < count → result ≡ leads order (record { offset = prev; size = last }) (record { offset = p; size = size }) }
 {
     if count == 0 {
         return true;

@@ -9,6 +9,8 @@
 // - marks: whether no two share a byte, by marks;
 // - sound: the soundness check of an arena, made of these;
 // - link: a node put in or taken out.
+#![tactic(auto)]
+
 mod check;
 mod link;
 mod marks;

@@ -11,10 +11,10 @@ use records::Order;
 
 // The link after the node at `prev` set to `to`, or the list's first where `prev` is the end mark: the first then.
 fn link(buf: &mut [u8], head: usize, prev: usize, to: usize) -> usize
-    requires prev_in_bounds { prev ≢ end_mark → prev + 8 ≤ length buf.old }
-    requires to_bound { to < 4294967296 }
-    ensures buf_after { buf.new ≡ link_bytes buf.old prev to }
-    ensures value { result ≡ link_head head prev to }
+    requires prev_in { prev ≢ end_mark → prev + 8 ≤ length buf.old }
+    requires to_fits { to < 4294967296 }
+    ensures bytes { buf.new ≡ link_bytes buf.old prev to }
+    ensures starts { result ≡ link_head head prev to }
 {
     if prev == END_MARK {
         return to;
@@ -33,9 +33,9 @@ pub fn insert(
     offset: usize,
     size: usize,
 ) -> usize
-    requires all { All (EndsBy (length buf.old)) (passed (word_at buf.old) count head) }
-    requires head_value { followed (word_at buf.old) count head ≡ end_mark }
-    requires size_in_bounds { (offset + 8 + size ≤ length buf.old) × (length buf.old < 4294967295) }
+    requires ends { All (EndsBy (length buf.old)) (passed (word_at buf.old) count head) }
+    requires whole { followed (word_at buf.old) count head ≡ end_mark }
+    requires room { (offset + 8 + size ≤ length buf.old) × (length buf.old < 4294967295) }
     ensures { Inserted
         buf.old
         (passed (word_at buf.old) count head)
@@ -59,10 +59,10 @@ pub fn insert(
 
 // The node at a place taken out of a list of `count` nodes: the list's first then.
 pub fn remove(buf: &mut [u8], head: usize, count: usize, spot: Spot) -> usize
-    requires all { All (EndsBy (length buf.old)) (passed (word_at buf.old) count head) }
+    requires ends { All (EndsBy (length buf.old)) (passed (word_at buf.old) count head) }
     requires stands { Stands (passed (word_at buf.old) count head) spot.index spot.prev spot.next }
     requires run { Run (word_at buf.old) head (passed (word_at buf.old) count head) end_mark }
-    requires index_lt_count { spot.index < count }
+    requires index_in { spot.index < count }
     ensures { Removed buf.old (passed (word_at buf.old) count head) head spot.index buf.new result }
 {
     let prev = spot.prev;

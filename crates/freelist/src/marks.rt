@@ -70,8 +70,8 @@ fn claim(marks: &mut [u64], a: usize, b: usize) -> bool
 // Whether no two of the first `count` nodes from `head` share a cell of those from `base` on that have a mark, all of them
 // unset: each node finds the marks of its cells unset, and sets them.
 fn claim_run(buf: &[u8], head: usize, count: usize, base: usize, marks: &mut [u64]) -> bool
-    requires all { All (EndsBy (length buf.now)) (passed (word_at buf.now) count head) }
-    requires marks_value { (marks.old ≡ replicate (length marks.old) 0) × (length marks.old ≤ 1024) }
+    requires ends { All (EndsBy (length buf.now)) (passed (word_at buf.now) count head) }
+    requires fresh { (marks.old ≡ replicate (length marks.old) 0) × (length marks.old ≤ 1024) }
     ensures { Tells result (Pairwise (Free base (base + length marks.old * 64)) (passed (word_at buf.now) count head)) }
 {
     let room = marks.len() * WORD;
@@ -111,8 +111,8 @@ fn window_apart(buf: &[u8], head: usize, count: usize, base: usize) -> bool
 
 // Whether they share no cell of so many windows, which follow each other.
 fn windows_apart(buf: &[u8], head: usize, count: usize, windows: usize) -> bool
-    requires all { All (EndsBy (length buf.now)) (passed (word_at buf.now) count head) }
-    requires windows_bound { windows < 281474976710656 }
+    requires ends { All (EndsBy (length buf.now)) (passed (word_at buf.now) count head) }
+    requires few { windows < 281474976710656 }
     ensures { Tells result (Pairwise (Free 0 (windows * 65536)) (passed (word_at buf.now) count head)) }
 {
     let mut base = 0;
@@ -130,8 +130,8 @@ fn windows_apart(buf: &[u8], head: usize, count: usize, windows: usize) -> bool
 // Whether no two of the first `count` nodes from `head` share a byte: the nodes are multiples of 8 and end at or below
 // `top`. Pair by pair where they are few for the room that they lie in, else by marks.
 pub fn apart_run(buf: &[u8], head: usize, count: usize, top: usize) -> bool
-    requires top_in_bounds { top ≤ length buf.now }
-    requires all { All (InRange 0 top) (passed (word_at buf.now) count head) }
+    requires top_in { top ≤ length buf.now }
+    requires ranged { All (InRange 0 top) (passed (word_at buf.now) count head) }
     ensures { result ≡ apartb (passed (word_at buf.now) count head) }
 {
     if count < 8 {

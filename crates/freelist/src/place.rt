@@ -9,7 +9,7 @@ use records::Order;
 
 // A test of a node: may this segment stand before it, has it room for so many bytes, has it a byte from `from` up to
 // `to`, does it end above this offset.
-#[derive(Drop)]
+#[derive(Clone, Copy)]
 pub enum Test {
     Place {
         order: Order,
@@ -25,7 +25,7 @@ pub enum Test {
 }
 
 // A place in a list: the nodes on both sides of it, the end mark where there is none, and how many nodes stand before.
-#[derive(Drop)]
+#[derive(Clone, Copy)]
 pub struct Spot {
     pub prev: usize,
     pub next: usize,
@@ -85,8 +85,8 @@ pub fn any_above(buf: &[u8], head: usize, count: usize, top: usize) -> bool
 
 // The place in a list of `count` nodes of the first that passes a test.
 pub fn find_place(buf: &[u8], head: usize, count: usize, test: Test) -> Spot
-    requires all { All (EndsBy (length buf.now)) (passed (word_at buf.now) count head) }
-    requires head_value { followed (word_at buf.now) count head ≡ end_mark }
+    requires ends { All (EndsBy (length buf.now)) (passed (word_at buf.now) count head) }
+    requires whole { followed (word_at buf.now) count head ≡ end_mark }
     ensures { Spotted (passed (word_at buf.now) count head) (passes test) result.prev result.next result.index }
 {
     let mut prev = END_MARK;

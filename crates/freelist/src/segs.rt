@@ -30,8 +30,8 @@ pub fn may_lead(order: Order, p: usize, s: usize, q: usize, t: usize) -> bool
 
 // The sum of the data sizes of a list of `count` nodes.
 pub fn sum_sizes(buf: &[u8], head: usize, count: usize) -> usize
-    requires all { All (EndsBy (length buf.now)) (passed (word_at buf.now) count head) }
-    requires head_in_bounds { sizes (passed (word_at buf.now) count head) ≤ length buf.now }
+    requires ends { All (EndsBy (length buf.now)) (passed (word_at buf.now) count head) }
+    requires sum_fits { sizes (passed (word_at buf.now) count head) ≤ length buf.now }
     ensures { result ≡ sizes (passed (word_at buf.now) count head) }
 {
     let mut sum = 0;

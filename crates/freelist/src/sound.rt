@@ -8,7 +8,7 @@ use crate::split::free_run;
 use records::{Header, Shape};
 
 // What the soundness check finds: a sound arena with so many free segments, or none.
-#[derive(Drop)]
+#[derive(Clone, Copy)]
 pub enum Finding {
     Sound(usize),
     Unsound,

@@ -11,7 +11,7 @@ use crate::segs::END_MARK;
 use records::{Order, Policy};
 
 // How many nodes a walk passed, and where it stands then.
-#[derive(Drop)]
+#[derive(Clone, Copy)]
 pub struct Walk {
     pub count: usize,
     pub stop: usize,
