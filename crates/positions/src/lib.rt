@@ -1,5 +1,7 @@
 // Where a rewind leads, on numbers alone. The exact sum of a top and an i64 is made of unsigned numbers that cannot overflow.
 // Every function is for any numbers; the callers' are those of a sound head.
+#![tactic(auto)]
+
 ghost use Rattle.std.specs.Prelude.{◌≡◌, ◌-◌, max, min, pos, ◌+ℤ◌};
 ghost use Rattle.positions.specs.NewTop.{new_top, exact_top};
 ghost use Rattle.positions.specs.Step.{move_of};
@@ -37,7 +39,7 @@ fn less(a: u32, b: u32) -> u32
 }
 
 // A signed number taken apart: how far it leads up or down.
-#[derive(Drop)]
+#[derive(Clone, Copy)]
 enum Move {
     Up(u64),
     Down(u64),

@@ -1,5 +1,7 @@
 // The three requests on numbers alone: which are well-formed, where they end at the top, what they need of a segment,
 // and the block that they have of one. What differs between bytes, typed and aligned requests is here and nowhere else.
+#![tactic(auto)]
+
 ghost use Rattle.std.specs.Prelude.{◌≡◌, true, ◌+◌, ◌≤◌};
 ghost use Rattle.records.specs.Setup.{limit};
 ghost use Rattle.requests.specs.Request.{layout_of, well_formed, good_layout, plain, for_nothing, top_end, asked, need, list_block, Planned, Needed};
@@ -7,7 +9,7 @@ ghost use Rattle.requests.specs.Request.{layout_of, well_formed, good_layout, pl
 use records::{Block, Request};
 
 // What a request asks for, in numbers: all that the three differ in at the top, but for what is zeroed there.
-#[derive(Drop)]
+#[derive(Clone, Copy)]
 struct Layout {
     size: u32,
     align: u32,
@@ -89,7 +91,7 @@ pub fn for_nothing(request: Request) -> bool
 }
 
 // A request at the top: where it ends, where its usable part starts, and from where up to the end it is zeroed.
-#[derive(Drop)]
+#[derive(Clone, Copy)]
 pub struct Room {
     pub want: usize,
     pub at: usize,
