@@ -8,7 +8,7 @@ use native.Mathlib.Omega.{arith}
 use borrow.Author.Tests.{le-ltb, lt-ltb, eq-eqb, ne_eqb}
 use lib.ListN.{length}
 use Rattle.words.specs.Word.{word_at, end_mark}
-use Rattle.records.specs.Answer.{leaves, refuses, givenBack}
+use Rattle.records.specs.Answer.{leaves, refuses, given_back}
 use Rattle.records.specs.Rule.{segment_of}
 use Rattle.records.specs.Change.{with_top, with_first, losing}
 use Rattle.records.specs.declared.Order.{Order}
@@ -51,7 +51,7 @@ module _ (s : Shape) (h : Header) (l : List ℕ) (offset size : ℕ) where
           gives_overlap e = simp (writable, good, le-ltb _ _ above, le-ltb _ _ below, e)
 
           module _ (apart : meets (free s h l) offset (offset + size) ≡ false) where
-            pub gives_top : offset + size ≡ h.allocated → (next : Header) → next ≡ with_top h offset → leaves (givenBack true) next l ≡ giving_back s h l offset size
+            pub gives_top : offset + size ≡ h.allocated → (next : Header) → next ≡ with_top h offset → leaves (given_back true) next l ≡ giving_back s h l offset size
             unfolding giving_back
             gives_top e next f = simp (writable, good, le-ltb _ _ above, le-ltb _ _ below, apart, eq-eqb _ _ e, f)
 
@@ -60,12 +60,12 @@ module _ (s : Shape) (h : Header) (l : List ℕ) (offset size : ℕ) where
             gives_below e = simp (writable, good, le-ltb _ _ above, le-ltb _ _ below, apart, ne_eqb _ _ e)
 
   -- below the top, by the policy and the segment rule
-  pub below_none : s.policy ≡ None → (next : Header) → next ≡ losing h size → leaves (givenBack true) next l ≡ below_top s.policy s h l offset size
+  pub below_none : s.policy ≡ None → (next : Header) → next ≡ losing h size → leaves (given_back true) next l ≡ below_top s.policy s h l offset size
   unfolding below_top
   below_none policy next e = simp (policy, e)
 
   pub below_refused : (o : Order) → s.policy ≡ Ordered o → segment_of h.minimum_segment_size offset size ≡ Refused
-      → (next : Header) → next ≡ losing h size → leaves (givenBack false) next l ≡ below_top s.policy s h l offset size
+      → (next : Header) → next ≡ losing h size → leaves (given_back false) next l ≡ below_top s.policy s h l offset size
   unfolding below_top put_in
   below_refused o policy rule next e = simp (policy, rule, e)
 
@@ -79,7 +79,7 @@ module _ (s : Shape) (h : Header) (l : List ℕ) (offset size : ℕ) where
 
     pub below_inserted : (o : Order) → s.policy ≡ Ordered o → (first count : ℕ) → first ≡ first_of h → Held l first count (free s h l)
         → (l' : List ℕ) (to : ℕ) → Inserted l (passed (word_at l) count first) first o (record { offset = p; size = n }) l' to
-        → (linked next : Header) → linked ≡ with_first h to → next ≡ losing linked 8 → leaves (givenBack true) next l' ≡ below_top s.policy s h l offset size
+        → (linked next : Header) → linked ≡ with_first h to → next ≡ losing linked 8 → leaves (given_back true) next l' ≡ below_top s.policy s h l offset size
     unfolding below_top put_in
     below_inserted o policy first count starts k l' to i linked next e f =
         rw (f, e ∙ ap (with_first h) i.starts, i.bytes) (simp (policy, rule, ← k.are, ← starts))

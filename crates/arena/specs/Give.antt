@@ -2,7 +2,7 @@
 use Rattle.std.specs.Prelude.{ℕ, ◌+◌, true, false, ◌||◌, not, List, [], ◌∷◌, ltb, eqb}
 use Rattle.words.specs.Word.{next_half}
 use Rattle.words.specs.Pick.{pick}
-use Rattle.records.specs.Answer.{Outcome, leaves, refuses, givenBack}
+use Rattle.records.specs.Answer.{Outcome, leaves, refuses, given_back}
 use Rattle.records.specs.Rule.{segment_of}
 use Rattle.records.specs.Change.{with_top, with_first, losing}
 use Rattle.records.specs.declared.Order.{Order}
@@ -20,15 +20,15 @@ use Rattle.freelist.specs.Sound.{sound, free}
 -- 01: rule refused: discarded grows by size, answer false; else insert, discarded grows by 8 and not by the padding, true.
 -- Insert before the first node whose size is >= the new (pessimistic) or <= the new (optimistic)
 unfoldable pub put_in : Header → List ℕ → List Seg → Order → ℕ → Segment → Outcome
-put_in h l segs o size Refused = leaves (givenBack false) (losing h size) l
+put_in h l segs o size Refused = leaves (given_back false) (losing h size) l
 put_in h l segs o size (At p n) =
     let q : Seg = record { offset = p; size = n } in
     let k = place (leads o q) segs in
-    leaves (givenBack true) (losing (with_first h (insert_head (next_half h.sentinel) segs k q)) 8) (insert_bytes l segs k q)
+    leaves (given_back true) (losing (with_first h (insert_head (next_half h.sentinel) segs k q)) 8) (insert_bytes l segs k q)
 
 -- 01: else None: discarded grows by size, true
 unfoldable pub below_top : Policy → Shape → Header → List ℕ → ℕ → ℕ → Outcome
-below_top None s h l offset size = leaves (givenBack true) (losing h size) l
+below_top None s h l offset size = leaves (given_back true) (losing h size) l
 below_top (Ordered o) s h l offset size =
     put_in h l (free s h l) o size (segment_of h.minimum_segment_size offset size)
 
@@ -39,5 +39,5 @@ giving_back s h l offset size =
     (pick (not (sound s h l)) (refuses 4 [] h l)
     (pick (ltb offset s.data_offset || ltb h.allocated (offset + size)) (refuses 6 (offset ∷ h.allocated ∷ []) h l)
     (pick (meets (free s h l) offset (offset + size)) (refuses 7 [] h l)
-    (pick (eqb (offset + size) h.allocated) (leaves (givenBack true) (with_top h offset) l)
+    (pick (eqb (offset + size) h.allocated) (leaves (given_back true) (with_top h offset) l)
     (below_top s.policy s h l offset size)))))

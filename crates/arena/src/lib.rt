@@ -1,6 +1,8 @@
 // The arena's calls. Shape and header go in by value, the buffer is lent, and the header comes back beside the answer.
 // Every public call takes any header, any bytes and any numbers: its contract is one equation that gives the answer,
 // the header and every byte, refusals included.
+#![tactic(auto)]
+
 ghost use Rattle.std.specs.Prelude.{◌≡◌, true, ◌+◌, ◌-◌, ◌≤◌, ◌<◌, length};
 ghost use Rattle.records.specs.Answer.{outcome};
 ghost use Rattle.records.specs.Setup.{limit};
@@ -17,7 +19,7 @@ use freelist::{Finding, Spot, Test};
 use records::{Answer, Block, Header, Order, Policy, Position, Reply, Request, Segment, Shape};
 
 // What a search of the list comes to: the place of a node that serves, or the room that a refusal reports.
-#[derive(Drop)]
+#[derive(Clone, Copy)]
 enum Lookup {
     Hit(Spot),
     Miss(u32),
@@ -38,8 +40,8 @@ fn end_at_top(shape: Shape, header: Header, buf: &[u8], request: Request) -> usi
 
 // A request that the top meets and that ends at `want`. The shape is there for the contract alone.
 fn take_top(shape: Shape, header: Header, buf: &mut [u8], request: Request, want: usize) -> Reply
-    requires want_value { want ≡ end_at_top shape header (length buf.old) request }
-    requires want_nonzero { 0 < want }
+    requires want_is { want ≡ end_at_top shape header (length buf.old) request }
+    requires some { 0 < want }
     ensures { outcome result buf.new ≡ taking shape header buf.old request }
 {
     let top = header.allocated;
@@ -101,8 +103,8 @@ fn search_list(
 
 // A block of m bytes of memory from p on, where a node stood: what the request needs of the bytes past the node is zeroed.
 fn hand_out(header: Header, buf: &mut [u8], p: usize, m: usize, request: Request) -> Reply
-    requires request_value { (well_formed request ≡ true) × (need request ≤ m) }
-    requires m_in_bounds { (p + 8 + m ≤ length buf.old) × (length buf.old ≤ limit) }
+    requires formed { (well_formed request ≡ true) × (need request ≤ m) }
+    requires room { (p + 8 + m ≤ length buf.old) × (length buf.old ≤ limit) }
     ensures { outcome result buf.new ≡ handed_out header buf.old p m request }
 {
     let start = p + words::NODE_SIZE;
@@ -126,8 +128,8 @@ fn take_node(
     request: Request,
     spot: Spot,
 ) -> Reply
-    requires buf_value { (sound shape header buf.old ≡ true) × (count ≡ length (free shape header buf.old)) }
-    requires policy_value { (shape.policy ≡ Ordered order) × (well_formed request ≡ true) }
+    requires found { (sound shape header buf.old ≡ true) × (count ≡ length (free shape header buf.old)) }
+    requires listed { (shape.policy ≡ Ordered order) × (well_formed request ≡ true) }
     requires serves { Serves (free shape header buf.old) (need request) spot }
     ensures { outcome result buf.new ≡ serve header buf.old (free shape header buf.old) order request spot.index }
 {
@@ -159,8 +161,8 @@ fn take_node(
 
 // A request past the top of a sound arena with `count` free segments.
 fn past_top(shape: Shape, header: Header, buf: &mut [u8], count: usize, request: Request) -> Reply
-    requires buf_value { (sound shape header buf.old ≡ true) × (count ≡ length (free shape header buf.old)) }
-    requires request_value { well_formed request ≡ true }
+    requires found { (sound shape header buf.old ≡ true) × (count ≡ length (free shape header buf.old)) }
+    requires formed { well_formed request ≡ true }
     ensures { outcome result buf.new ≡ past_top shape.policy shape header buf.old request }
 {
     let policy = shape.policy;
@@ -294,8 +296,8 @@ fn give_below(
     offset: u32,
     size: u32,
 ) -> Reply
-    requires buf_value { (sound shape header buf.old ≡ true) × (count ≡ length (free shape header buf.old)) }
-    requires size_bound { offset + size ≤ header.allocated }
+    requires found { (sound shape header buf.old ≡ true) × (count ≡ length (free shape header buf.old)) }
+    requires ends_below { offset + size ≤ header.allocated }
     ensures { outcome result buf.new ≡ below_top shape.policy shape header buf.old offset size }
 {
     let policy = shape.policy;

@@ -15,7 +15,7 @@ use lib.Seq.{set-get_or, sets-eq}
 use Rattle.words.specs.Word.{node_word, size_half, next_half}
 use Rattle.words.proofs.Digits.{word_size, word_next}
 use Rattle.words.specs.Pick.{pick}
-use Rattle.records.specs.Answer.{Outcome, outcome, leaves, Said, said, granted, nothing, givenBack, sum, done, refused, Began}
+use Rattle.records.specs.Answer.{Outcome, outcome, leaves, Said, said, granted, nothing, given_back, sum, done, refused, Began}
 use Rattle.records.specs.Setup.{data_offset, policy_of, setting_up}
 use Rattle.records.specs.Head.{head_sound}
 use Rattle.records.proofs.Facts.{head_no}
@@ -127,7 +127,7 @@ heard : CAnswer → Said
 heard a =
     pick (eqb a.code 100) (granted (record { memory_offset = a.first; memory_size = a.second; usable_offset = a.third; usable_size = a.fourth }))
     (pick (eqb a.code 101) nothing
-    (pick (eqb a.code 102) (givenBack (eqb a.first 1))
+    (pick (eqb a.code 102) (given_back (eqb a.first 1))
     (pick (eqb a.code 103) (sum a.first)
     (pick (eqb a.code 104) done
     (refused a.code (pick (eqb a.code 6 || eqb a.code 9) (a.first ∷ a.second ∷ []) []))))))

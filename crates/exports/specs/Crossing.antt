@@ -2,7 +2,7 @@
 use Rattle.std.specs.Prelude.{ℕ, ◌≡◌, Bool, true, false, ◌&&◌, List, leb, eqb, get_or, set}
 use Rattle.words.specs.Pick.{pick}
 use Rattle.words.specs.Word.{node_word, size_half, next_half}
-use Rattle.records.specs.Answer.{Outcome, Said, said, granted, nothing, givenBack, sum, done, refused, Began, ready, unready}
+use Rattle.records.specs.Answer.{Outcome, Said, said, granted, nothing, given_back, sum, done, refused, Began, ready, unready}
 use Rattle.records.specs.Setup.{policy_of, setting_up}
 use Rattle.records.specs.declared.Order.TheVariants.{Optimistic, Pessimistic}
 use Rattle.records.specs.declared.Policy.{Policy}
@@ -93,7 +93,7 @@ numbers_of code a b c d = record { code = code; first = a; second = b; third = c
 abbrev pub answer_of : Said → CAnswer
 answer_of (granted b) = numbers_of 100 b.memory_offset b.memory_size b.usable_offset b.usable_size
 answer_of nothing = numbers_of 101 0 0 0 0
-answer_of (givenBack x) = numbers_of 102 (truth x) 0 0 0
+answer_of (given_back x) = numbers_of 102 (truth x) 0 0 0
 answer_of (sum n) = numbers_of 103 n 0 0 0
 answer_of done = numbers_of 104 0 0 0 0
 answer_of (refused code carried) = numbers_of code (get_or carried 0 0) (get_or carried 1 0) 0 0

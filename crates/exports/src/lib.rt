@@ -4,6 +4,8 @@
 // Every call takes any shape, any header, any bytes and any numbers. Its contract is one equation that gives the answer, the six
 // numbers and every byte afterwards, also where it refuses. A shape whose policy code is none of 0, 1, 2, or whose `unify` or
 // `read_only` is neither 0 nor 1, is damaged: no head is sound over it.
+#![tactic(auto)]
+
 ghost use Rattle.std.specs.Prelude.{◌≡◌, ◌-◌, length};
 ghost use Rattle.records.specs.Answer.{said};
 ghost use Rattle.records.specs.Setup.{policy_of};
@@ -31,7 +33,7 @@ const DONE: u32 = 104;
 // An arena's shape, as setup gave it. `unify` and `read_only` are 0 or 1; the policy by its code: none 0, optimistic 1,
 // pessimistic 2. They cross as bytes, since a shape may come from a file, where a byte can hold anything.
 #[repr(C)]
-#[derive(Drop)]
+#[derive(Clone, Copy)]
 pub struct CShape {
     pub cap: u32,
     pub reserved: u32,
@@ -43,7 +45,7 @@ pub struct CShape {
 
 // An answer: its code, and what it carries.
 #[repr(C)]
-#[derive(Drop)]
+#[derive(Clone, Copy)]
 pub struct CAnswer {
     pub code: u32,
     pub first: u32,
@@ -54,7 +56,7 @@ pub struct CAnswer {
 
 // What setup answers: 104 and a shape, or a refusal and zeros.
 #[repr(C)]
-#[derive(Drop)]
+#[derive(Clone, Copy)]
 pub struct CBegun {
     pub code: u32,
     pub shape: CShape,

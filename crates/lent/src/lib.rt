@@ -1,5 +1,7 @@
 // The header as one lent record that is changed in place: three thin functions over the by-value calls, with the same
 // answers. A refusal leaves the record as it was.
+#![tactic(auto)]
+
 ghost use Rattle.std.specs.Prelude.{◌≡◌};
 ghost use Rattle.records.specs.Answer.{said, leaves};
 ghost use Rattle.records.specs.declared.Request.TheVariants.{Bytes};

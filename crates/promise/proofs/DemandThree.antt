@@ -39,8 +39,8 @@ pub kept_promise : {s : Shape} {st : State} → Kept s st → Promise s st
 kept_promise {s} {st} k =
     let m = k.holding in
     record {
-      is-sound = (sound_iff s st.header st.bytes).0 m.sounds;
-      held-apart =
+      is_sound = (sound_iff s st.header st.bytes).0 m.sounds;
+      held_apart =
           pairs_map Asunder (λ a b. (x : ℕ) → Holds a x → Holds b x → ⊥) (Placed s.data_offset st.header.allocated) (λ a b p q. asunder_bytes p q) st.held m.placed m.apart;
       free_apart = λ b g held free. clear_bytes (held_placed m b held) g (all_mem (Clear b) g (free_in s st) free (held_clear m b held));
       taken_back = λ b held. let t = give_taken k b held in (t.answer, t.is);

@@ -11,7 +11,7 @@ use borrow.Author.Tests.{le-ltb, eqb-true, eqb-false, not-true}
 use lib.Dec.{eqb}
 use Rattle.words.proofs.Ranges.{Parted, parted_flip, parted_parts, parted_below}
 use Rattle.words.specs.Pick.{pick}
-use Rattle.records.specs.Answer.{Outcome, leaves, givenBack}
+use Rattle.records.specs.Answer.{Outcome, leaves, given_back}
 use Rattle.records.specs.Rule.{segment_of}
 use Rattle.records.specs.Change.{with_top, with_first, losing}
 use Rattle.records.specs.declared.Order.{Order}
@@ -86,12 +86,12 @@ module _ {s : Shape} {h : Header} {l : List ℕ} {segs : List Seg} {held : List 
 -- a range was taken back, with this answer
 pub record Taken (o : Outcome) : Type 0 where
   pub answer : Bool
-  pub is : o.says ≡ givenBack answer
+  pub is : o.says ≡ given_back answer
 
 module _ {s : Shape} {st : State} (k : Kept s st) (b : Block) (mem : Memᴰ b st.held) where
   -- no test of a give-back refuses it
   gives_held : giving_back s st.header st.bytes b.memory_offset b.memory_size
-      ≡ pick (eqb (b.memory_offset + b.memory_size) st.header.allocated) (leaves (givenBack true) (with_top st.header b.memory_offset) st.bytes)
+      ≡ pick (eqb (b.memory_offset + b.memory_size) st.header.allocated) (leaves (given_back true) (with_top st.header b.memory_offset) st.bytes)
       (below_top s.policy s st.header st.bytes b.memory_offset b.memory_size)
   unfolding giving_back
   gives_held =
@@ -108,8 +108,8 @@ module _ {s : Shape} {st : State} (k : Kept s st) (b : Block) (mem : Memᴰ b st
 
   -- what holds of each way of taking it back holds of the give-back
   gives_one : (P : Outcome → Type 0)
-      → (b.memory_offset + b.memory_size ≡ st.header.allocated → P (leaves (givenBack true) (with_top st.header b.memory_offset) st.bytes))
-      → ((x : Bool) → P (leaves (givenBack x) (losing st.header b.memory_size) st.bytes))
+      → (b.memory_offset + b.memory_size ≡ st.header.allocated → P (leaves (given_back true) (with_top st.header b.memory_offset) st.bytes))
+      → ((x : Bool) → P (leaves (given_back x) (losing st.header b.memory_size) st.bytes))
       → ((o : Order) → s.policy ≡ Ordered o → (p n : ℕ) → segment_of st.header.minimum_segment_size b.memory_offset b.memory_size ≡ At p n
       → P (put_in st.header st.bytes (free_in s st) o b.memory_size (At p n)))
       → P (giving_back s st.header st.bytes b.memory_offset b.memory_size)
@@ -136,6 +136,6 @@ module _ {s : Shape} {st : State} (k : Kept s st) (b : Block) (mem : Memᴰ b st
   give_left =
       let c = Give b.memory_offset b.memory_size in
       gives_one (Left s st c)
-      (λ e. left_quiet k c (givenBack true) _ (keeps k.writable (lowered k.holding b mem e)))
-      (λ x. left_quiet k c (givenBack x) _ (keeps k.writable (hold_counters (rest k.holding b mem) _ refl refl)))
-      (λ o policy p n e. left_onward k c (givenBack true) (λ x held stays. stays) (returned k.holding b mem o policy (record { offset = p; size = n }) (cut_of _ _ _ p n e)))
+      (λ e. left_quiet k c (given_back true) _ (keeps k.writable (lowered k.holding b mem e)))
+      (λ x. left_quiet k c (given_back x) _ (keeps k.writable (hold_counters (rest k.holding b mem) _ refl refl)))
+      (λ o policy p n e. left_onward k c (given_back true) (λ x held stays. stays) (returned k.holding b mem o policy (record { offset = p; size = n }) (cut_of _ _ _ p n e)))

@@ -9,7 +9,7 @@ use lib.ListN.{take, drop, replicate}
 use Rattle.words.specs.Round as R
 use Rattle.words.specs.Align as Al
 use Rattle.words.specs.Word as W
-use Rattle.records.specs.Answer.{Outcome, Said, granted, nothing, givenBack, done, refused, Began, ready}
+use Rattle.records.specs.Answer.{Outcome, Said, granted, nothing, given_back, done, refused, Began, ready}
 use Rattle.records.specs.Setup as St
 use Rattle.records.specs.Setup.{data_offset, fresh_header, setting_up}
 use Rattle.records.specs.Change.{with_top}
@@ -46,7 +46,7 @@ use Rattle.arena.specs.Rewind.{rewinding}
 -- a line's figure: what a call said, alone or with the top that it left, the list with the count of discarded bytes, bytes or offsets, a segment, an arena set up
 pub data Figure : Type 0 where
   says : Said → Figure
-  saysAt : Said → ℕ → Figure
+  says_at : Said → ℕ → Figure
   list : List Seg → ℕ → Figure
   bytes : List ℕ → Figure
   rule : Segment → Figure
@@ -99,7 +99,7 @@ s o = give (day o) (noon o) 48 60
 
 -- what a call says and the top that it leaves
 abbrev pub leading : Outcome → Figure
-leading x = saysAt x.says x.header.allocated
+leading x = says_at x.says x.header.allocated
 
 -- top 108, cap 200, data offset 8, list empty
 abbrev pub rewind : Order → Position → Figure
@@ -132,10 +132,10 @@ abbrev pub refusal : ℕ → List ℕ → Figure
 refusal code carried = says (refused code carried)
 
 abbrev pub done_at : ℕ → Figure
-done_at top = saysAt done top
+done_at top = says_at done top
 
 abbrev pub back_at : ℕ → Figure
-back_at top = saysAt (givenBack true) top
+back_at top = says_at (given_back true) top
 
 -- each line: what the definitions compute, and what the paper says
 pub record Line : Type 0 where

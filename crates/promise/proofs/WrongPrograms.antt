@@ -15,7 +15,7 @@ use lib.ListN.{length, replicate, get_or}
 use Rattle.words.specs.Round as R
 use Rattle.words.specs.Word as W
 use Rattle.words.specs.Pick.{pick}
-use Rattle.records.specs.Answer.{Outcome, Said, granted, nothing, givenBack, sum, done, refused, ready, leaves, refuses}
+use Rattle.records.specs.Answer.{Outcome, Said, granted, nothing, given_back, sum, done, refused, ready, leaves, refuses}
 use Rattle.records.specs.Setup as St
 use Rattle.records.specs.Change.{with_first, losing}
 use Rattle.records.specs.Head as Hd
@@ -94,10 +94,10 @@ brought_reached s (begun settings h l e w) = fresh settings h l e w
 brought_reached s (next c a b) = call c a (brought_reached s b)
 
 pub performed_sounds : Sounds performed
-performed_sounds s st b = (demand_three s st (brought_reached s b)).is-sound
+performed_sounds s st b = (demand_three s st (brought_reached s b)).is_sound
 
 pub performed_parts : Parts performed
-performed_parts s st b = (demand_three s st (brought_reached s b)).held-apart
+performed_parts s st b = (demand_three s st (brought_reached s b)).held_apart
 
 pub performed_grants_where_reached : GrantsWhereReached performed
 performed_grants_where_reached s st r = (demand_three s st r).grants
@@ -120,7 +120,7 @@ begin_brought p = begun (record { reserved = 7; unify = false; policy = 1; minim
 abbrev sum_of : Said → ℕ
 sum_of (granted b) = 0
 sum_of nothing = 0
-sum_of (givenBack b) = 0
+sum_of (given_back b) = 0
 sum_of (sum n) = n
 sum_of done = 0
 sum_of (refused n c) = 0
@@ -152,7 +152,7 @@ records_nothing_out = same_header_out records_nothing (λ s h l c. refl)
 abbrev always : Block → Said → Said
 always b (granted c) = granted b
 always b nothing = nothing
-always b (givenBack x) = givenBack x
+always b (given_back x) = given_back x
 always b (sum n) = sum n
 always b done = done
 always b (refused n c) = refused n c
@@ -194,8 +194,8 @@ first_and later s h l (AddDiscarded n) = performed s h l (AddDiscarded n)
 
 -- they stand in front, whatever their size
 abbrev front : Header → List ℕ → ℕ → Segment → Outcome
-front h l size Refused = leaves (givenBack false) (losing h size) l
-front h l size (At p n) = leaves (givenBack true) (losing (with_first h p) 8) (W.put_word l p (W.node_word n (first_of h)))
+front h l size Refused = leaves (given_back false) (losing h size) l
+front h l size (At p n) = leaves (given_back true) (losing (with_first h p) 8) (W.put_word l p (W.node_word n (first_of h)))
 
 abbrev pub first_only : Program
 first_only = first_and (λ s h l offset size. front h l size (Ru.segment_of h.minimum_segment_size offset size))
@@ -210,7 +210,7 @@ first_only_out m =
 -- or, below the top, they are answered true and counted as discarded, with no node: its own runs stay sound; the exact answers and headers of demand 2 shut it out
 abbrev pub first_then_loses : Program
 first_then_loses =
-    first_and (λ s h l offset size. pick (eqb (offset + size) h.allocated) (performed s h l (Give offset size)) (leaves (givenBack true) (losing h size) l))
+    first_and (λ s h l offset size. pick (eqb (offset + size) h.allocated) (performed s h l (Give offset size)) (leaves (given_back true) (losing h size) l))
 
 first_then_loses_left : {s : Shape} {st : State} → Kept s st → (c : Call) → Allowed st c → Left s st c (first_then_loses s st.header st.bytes c)
 first_then_loses_left k (Take r) a = call_left k (Take r) a
@@ -218,7 +218,7 @@ first_then_loses_left {s} {st} k (Give offset size) a =
     let c = Give offset size in
     let lost = hold_counters (hold_only k.holding (elsewhere offset)) (losing st.header size) refl refl in
     pick_either (Left s st c) (eqb (length (free_in s st)) 0) _ _ (λ _. call_left k c a)
-    (λ _. pick_either (Left s st c) (eqb (offset + size) st.header.allocated) _ _ (λ _. call_left k c a) (λ _. left_quiet k c (givenBack true) _ (keeps k.writable lost)))
+    (λ _. pick_either (Left s st c) (eqb (offset + size) st.header.allocated) _ _ (λ _. call_left k c a) (λ _. left_quiet k c (given_back true) _ (keeps k.writable lost)))
 first_then_loses_left k Discard a = call_left k Discard a
 first_then_loses_left k (Rewind p) a = call_left k (Rewind p) a
 first_then_loses_left k (SetMinimum n) a = call_left k (SetMinimum n) a
@@ -229,7 +229,7 @@ first_then_loses_kept s (begun settings h l e w) = fresh_keeps s settings h l e 
 first_then_loses_kept s (next c a b) = (first_then_loses_left (first_then_loses_kept s b) c a).kept
 
 pub first_then_loses_sounds : Sounds first_then_loses
-first_then_loses_sounds s st b = (kept_promise (first_then_loses_kept s b)).is-sound
+first_then_loses_sounds s st b = (kept_promise (first_then_loses_kept s b)).is_sound
 
 pub first_then_loses_out : Meets first_then_loses → ⊥
 unfolding R.round_up W.value_of W.digits W.splice W.word_at W.put_word W.zeroed St.data_offset Hd.head_sound Ru.segment_of Rq.well_formed Rq.plain Rq.for_nothing Rq.want Rq.top_block Rq.zeroed_from C.in_range C.may_follow C.kept C.good_run C.soundb L.link_bytes L.link_head L.insert_bytes L.insert_head So.sound So.free T.from_top T.taking G.put_in G.below_top G.giving_back
@@ -272,7 +272,7 @@ refuses_all_grants_out m =
 abbrev invented : Said → Said
 invented (granted b) = granted b
 invented nothing = nothing
-invented (givenBack b) = givenBack b
+invented (given_back b) = given_back b
 invented (sum n) = sum (n + 1)
 invented done = done
 invented (refused n c) = refused n c

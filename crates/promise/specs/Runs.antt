@@ -2,7 +2,7 @@
 use Rattle.std.specs.Prelude.{ℕ, ◌+◌, ◌≤◌, ◌<◌, ◌≡◌, Bool, true, false, ◌&&◌, not, ◌⊎◌, ◌↔◌, leb, eqb, length, get_or}
 use mathlib.Core.List.{List, [], ◌∷◌, Memᴰ}
 use Rattle.words.specs.Pick.{pick}
-use Rattle.records.specs.Answer.{Said, granted, nothing, givenBack, sum, done, refused, ready}
+use Rattle.records.specs.Answer.{Said, granted, nothing, given_back, sum, done, refused, ready}
 use Rattle.records.specs.Setup.{setting_up}
 use Rattle.records.specs.declared.Order.TheVariants.{Optimistic, Pessimistic}
 use Rattle.records.specs.declared.Policy.{Policy}
@@ -55,20 +55,20 @@ elsewhere offset b = not (eqb b.memory_offset offset)
 abbrev pub held_after : List Block → Call → Said → ℕ → List Block
 held_after bs (Take r) (granted b) top = b ∷ bs
 held_after bs (Take r) nothing top = bs
-held_after bs (Take r) (givenBack x) top = bs
+held_after bs (Take r) (given_back x) top = bs
 held_after bs (Take r) (sum n) top = bs
 held_after bs (Take r) done top = bs
 held_after bs (Take r) (refused n c) top = bs
 held_after bs (Give offset size) (granted b) top = bs
 held_after bs (Give offset size) nothing top = bs
-held_after bs (Give offset size) (givenBack x) top = only (elsewhere offset) bs
+held_after bs (Give offset size) (given_back x) top = only (elsewhere offset) bs
 held_after bs (Give offset size) (sum n) top = bs
 held_after bs (Give offset size) done top = bs
 held_after bs (Give offset size) (refused n c) top = bs
 held_after bs Discard x top = bs
 held_after bs (Rewind p) (granted b) top = bs
 held_after bs (Rewind p) nothing top = bs
-held_after bs (Rewind p) (givenBack x) top = bs
+held_after bs (Rewind p) (given_back x) top = bs
 held_after bs (Rewind p) (sum n) top = bs
 held_after bs (Rewind p) done top = only (ends_by top) bs
 held_after bs (Rewind p) (refused n c) top = bs
@@ -122,14 +122,14 @@ pub record PastTop (s : Shape) (st : State) (r : Request) : Type 0 where
 -- what demand 3 promises of a state that was reached
 pub record Promise (s : Shape) (st : State) : Type 0 where
   -- the arena is sound
-  pub is-sound : Sound s st.header st.bytes
+  pub is_sound : Sound s st.header st.bytes
   -- held blocks share no byte
-  pub held-apart : Pairwise (λ a b. (x : ℕ) → Holds a x → Holds b x → ⊥) st.held
+  pub held_apart : Pairwise (λ a b. (x : ℕ) → Holds a x → Holds b x → ⊥) st.held
   -- held blocks and free segments share no byte
   pub free_apart : (b : Block) (g : Seg) → Memᴰ b st.held → Memᴰ g (free_in s st) → (x : ℕ) → Holds b x → Covers g x → ⊥
   -- no give-back of a held block is refused
   pub taken_back : (b : Block) → Memᴰ b st.held →
-      (x : Bool) × ((performed s st.header st.bytes (Give b.memory_offset b.memory_size)).says ≡ givenBack x)
+      (x : Bool) × ((performed s st.header st.bytes (Give b.memory_offset b.memory_size)).says ≡ given_back x)
   -- such a request is granted exactly if some free segment's data size is at least its need
   pub grants : (r : Request) → PastTop s st r → (s.policy ≡ None → ⊥) →
       ((b : Block) × ((performed s st.header st.bytes (Take r)).says ≡ granted b)) ↔ ((g : Seg) × Memᴰ g (free_in s st) × (need (plain r) ≤ g.size))

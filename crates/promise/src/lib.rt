@@ -1,12 +1,14 @@
 // Every call that may change an arena, as one value: what theorems over whole days of calls speak of. `perform` makes the
 // call by the arena's own code, and its contract is a step of those days.
+#![tactic(auto)]
+
 ghost use Rattle.std.specs.Prelude.{◌≡◌};
 ghost use Rattle.records.specs.Answer.{outcome};
 ghost use Rattle.promise.specs.Calls.{performed};
 
 use records::{Header, Position, Reply, Request, Shape};
 
-#[derive(Drop)]
+#[derive(Clone, Copy)]
 pub enum Call {
     Take(Request),
     Give { offset: u32, size: u32 },

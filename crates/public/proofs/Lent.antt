@@ -13,7 +13,7 @@ use denote.Triple.Spec.{Meets}
 use Rattle.records.specs.declared.Request.TheVariants.{Bytes}
 use Rattle.promise.specs.declared.Call.TheVariants.{Take, Give, Rewind}
 use Rattle.lent.proofs as lent
-use Rattle.public.specs.Public.{Promised, lentChange}
+use Rattle.public.specs.Public.{Promised, lent_change}
 
 -- what a function may ensure: a fact of its arguments, its result and its parameters at exit
 abbrev Fact : Ended → Type 1
@@ -31,15 +31,15 @@ Ensures T code p M =
 
 pub alloc-bytes-row :
     {M : Type 1} → Ensures lent.alloc_bytes.ended lent.alloc_bytes.Symbol.routine
-    (λ κs a r e. Promised (lentChange a.0 a.1.0.now a.1.1.0.now (Take (Bytes a.1.1.1.0))) (r, e.1.0.now, e.1.1.0.now)) M
+    (λ κs a r e. Promised (lent_change a.0 a.1.0.now a.1.1.0.now (Take (Bytes a.1.1.1.0))) (r, e.1.0.now, e.1.1.0.now)) M
 alloc-bytes-row = lent.alloc_bytes.Met.met
 
 pub dealloc-row :
     {M : Type 1} → Ensures lent.dealloc.ended lent.dealloc.Symbol.routine
-    (λ κs a r e. Promised (lentChange a.0 a.1.0.now a.1.1.0.now (Give a.1.1.1.0 a.1.1.1.1.0)) (r, e.1.0.now, e.1.1.0.now)) M
+    (λ κs a r e. Promised (lent_change a.0 a.1.0.now a.1.1.0.now (Give a.1.1.1.0 a.1.1.1.1.0)) (r, e.1.0.now, e.1.1.0.now)) M
 dealloc-row = lent.dealloc.Met.met
 
 pub rewind-row :
     {M : Type 1} → Ensures lent.rewind.ended lent.rewind.Symbol.routine
-    (λ κs a r e. Promised (lentChange a.0 a.1.0.now a.1.1.0.now (Rewind a.1.1.1.0)) (r, e.1.0.now, a.1.1.0.now)) M
+    (λ κs a r e. Promised (lent_change a.0 a.1.0.now a.1.1.0.now (Rewind a.1.1.1.0)) (r, e.1.0.now, a.1.1.0.now)) M
 rewind-row = lent.rewind.Met.met

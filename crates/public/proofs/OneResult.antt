@@ -7,7 +7,7 @@ use mathlib.Core.List.{List}
 use lib.Dec.{eqb}
 use lib.ListN.{get_or}
 use Rattle.words.specs.Pick.{pick}
-use Rattle.records.specs.Answer.{Said, granted, nothing, givenBack, sum, done, refused, said, Outcome, outcome, leaves, Began, ready, unready, began}
+use Rattle.records.specs.Answer.{Said, granted, nothing, given_back, sum, done, refused, said, Outcome, outcome, leaves, Began, ready, unready, began}
 use Rattle.records.specs.declared.Answer.{Answer}
 use Rattle.records.specs.declared.Answer.TheVariants.{Granted, Nothing, GivenBack, Sum, Done, ReadOnly, Damaged, BadLayout, OutOfBounds, Overlap, CutsFreeList, InsufficientSpace}
 use Rattle.records.specs.declared.Header.{Header}
@@ -23,7 +23,7 @@ use Rattle.public.specs.Public as P
 unsaid : Said → Answer
 unsaid (granted b) = Granted b
 unsaid nothing = Nothing
-unsaid (givenBack b) = GivenBack b
+unsaid (given_back b) = GivenBack b
 unsaid (sum n) = Sum n
 unsaid done = Done
 unsaid (refused number carried) =
@@ -102,18 +102,18 @@ one_result (P.usable l b) x y e f = e ∙ sym f
 one_result (P.writable l start b) x y e f =
     ap₂ (λ (m : List ℕ) (at : ℕ × ℕ). (m, at)) (e.0 ∙ sym f.0) (e.1 ∙ sym f.1)
 one_result (P.reserved l s) x y e f = e ∙ sym f
-one_result (P.lentChange s h l call) x y e f = left_one _ x y e f
-one_result (P.cSetup n l kept unify code least read_only) x y e f = ap (λ (o : Opened). (o.begun, o.header)) (e ∙ sym f)
-one_result (P.cChange c n l call) x y e f = ap (λ (o : Crossed). (o.answer, o.header, o.bytes)) (e ∙ sym f)
-one_result (P.cCheck c n l) x y e f = e ∙ sym f
-one_result (P.cRemaining c n) x y e f = e ∙ sym f
-one_result (P.dataStart kept unify) x y e f = e.is ∙ sym f.is
+one_result (P.lent_change s h l call) x y e f = left_one _ x y e f
+one_result (P.c_setup n l kept unify code least read_only) x y e f = ap (λ (o : Opened). (o.begun, o.header)) (e ∙ sym f)
+one_result (P.c_change c n l call) x y e f = ap (λ (o : Crossed). (o.answer, o.header, o.bytes)) (e ∙ sym f)
+one_result (P.c_check c n l) x y e f = e ∙ sym f
+one_result (P.c_remaining c n) x y e f = e ∙ sym f
+one_result (P.data_start kept unify) x y e f = e.is ∙ sym f.is
 one_result (P.policy code) x y e f = e ∙ sym f
-one_result (P.headCheck s h l) x y e f = e ∙ sym f
+one_result (P.head_check s h l) x y e f = e ∙ sym f
 one_result (P.segment least offset size) x y e f = e ∙ sym f
 one_result (P.first h) x y e f = e ∙ sym f
-one_result (P.setFirst h n) x y e f = e ∙ sym f
-one_result (P.setTop h n) x y e f = e ∙ sym f
-one_result (P.setMinimum h n) x y e f = e ∙ sym f
+one_result (P.set_first h n) x y e f = e ∙ sym f
+one_result (P.set_top h n) x y e f = e ∙ sym f
+one_result (P.set_minimum h n) x y e f = e ∙ sym f
 one_result (P.lose h n) x y e f = e ∙ sym f
 one_result (P.rewound start end top p) x y e f = e ∙ sym f

@@ -43,19 +43,19 @@ pub data Public : Type 0 where
   usable : List ℕ → Block → Public
   writable : List ℕ → ℕ × ℕ → Block → Public
   reserved : List ℕ → Shape → Public
-  lentChange : Shape → Header → List ℕ → Call → Public
-  cSetup : List ℕ → List ℕ → ℕ → ℕ → ℕ → ℕ → ℕ → Public
-  cChange : CShape → List ℕ → List ℕ → Call → Public
-  cCheck : CShape → List ℕ → List ℕ → Public
-  cRemaining : CShape → List ℕ → Public
-  dataStart : ℕ → Bool → Public
+  lent_change : Shape → Header → List ℕ → Call → Public
+  c_setup : List ℕ → List ℕ → ℕ → ℕ → ℕ → ℕ → ℕ → Public
+  c_change : CShape → List ℕ → List ℕ → Call → Public
+  c_check : CShape → List ℕ → List ℕ → Public
+  c_remaining : CShape → List ℕ → Public
+  data_start : ℕ → Bool → Public
   policy : ℕ → Public
-  headCheck : Shape → Header → List ℕ → Public
+  head_check : Shape → Header → List ℕ → Public
   segment : ℕ → ℕ → ℕ → Public
   first : Header → Public
-  setFirst : Header → ℕ → Public
-  setTop : Header → ℕ → Public
-  setMinimum : Header → ℕ → Public
+  set_first : Header → ℕ → Public
+  set_top : Header → ℕ → Public
+  set_minimum : Header → ℕ → Public
   lose : Header → ℕ → Public
   rewound : ℕ → ℕ → ℕ → Position → Public
 
@@ -73,19 +73,19 @@ Result (minimum h) = ℕ
 Result (usable l b) = List ℕ
 Result (writable l start b) = List ℕ × (ℕ × ℕ)
 Result (reserved l s) = List ℕ
-Result (lentChange s h l call) = Answer × Header × List ℕ
-Result (cSetup n l kept unify code least read_only) = CBegun × List ℕ
-Result (cChange c n l call) = CAnswer × List ℕ × List ℕ
-Result (cCheck c n l) = Bool
-Result (cRemaining c n) = ℕ
-Result (dataStart kept unify) = ℕ
+Result (lent_change s h l call) = Answer × Header × List ℕ
+Result (c_setup n l kept unify code least read_only) = CBegun × List ℕ
+Result (c_change c n l call) = CAnswer × List ℕ × List ℕ
+Result (c_check c n l) = Bool
+Result (c_remaining c n) = ℕ
+Result (data_start kept unify) = ℕ
 Result (policy code) = Named
-Result (headCheck s h l) = Bool
+Result (head_check s h l) = Bool
 Result (segment least offset size) = Segment
 Result (first h) = ℕ
-Result (setFirst h n) = Header
-Result (setTop h n) = Header
-Result (setMinimum h n) = Header
+Result (set_first h n) = Header
+Result (set_top h n) = Header
+Result (set_minimum h n) = Header
 Result (lose h n) = Header
 Result (rewound start end top p) = ℕ
 
@@ -103,18 +103,18 @@ Promised (minimum h) x = x ≡ h.minimum_segment_size
 Promised (usable l b) x = x ≡ usable_part l b
 Promised (writable l start b) x = (x.0 ≡ usable_part l b) × (x.1 ≡ usable_place l start b)
 Promised (reserved l s) x = x ≡ reserved_part l s
-Promised (lentChange s h l call) x = leaves (said x.0) x.1 x.2 ≡ performed s h l call
-Promised (cSetup n l kept unify code least read_only) x = opened x.0 x.1 ≡ opening kept unify code least read_only (length l) n
-Promised (cChange c n l call) x = crossed x.0 x.1 x.2 ≡ crossing c n l (λ s h m. performed s h m call)
-Promised (cCheck c n l) x = x ≡ sound (shape_in c) (header_of n) l
-Promised (cRemaining c n) x = x ≡ c.cap - (header_of n).allocated
-Promised (dataStart kept unify) x = Offset kept unify x
+Promised (lent_change s h l call) x = leaves (said x.0) x.1 x.2 ≡ performed s h l call
+Promised (c_setup n l kept unify code least read_only) x = opened x.0 x.1 ≡ opening kept unify code least read_only (length l) n
+Promised (c_change c n l call) x = crossed x.0 x.1 x.2 ≡ crossing c n l (λ s h m. performed s h m call)
+Promised (c_check c n l) x = x ≡ sound (shape_in c) (header_of n) l
+Promised (c_remaining c n) x = x ≡ c.cap - (header_of n).allocated
+Promised (data_start kept unify) x = Offset kept unify x
 Promised (policy code) x = x ≡ policy_of code
-Promised (headCheck s h l) x = x ≡ head_sound s h (length l)
+Promised (head_check s h l) x = x ≡ head_sound s h (length l)
 Promised (segment least offset size) x = x ≡ segment_of least offset size
 Promised (first h) x = x ≡ next_half h.sentinel
-Promised (setFirst h n) x = x ≡ with_first h n
-Promised (setTop h n) x = x ≡ with_top h n
-Promised (setMinimum h n) x = x ≡ with_minimum h n
+Promised (set_first h n) x = x ≡ with_first h n
+Promised (set_top h n) x = x ≡ with_top h n
+Promised (set_minimum h n) x = x ≡ with_minimum h n
 Promised (lose h n) x = x ≡ losing h n
 Promised (rewound start end top p) x = x ≡ new_top start end top p

@@ -1,5 +1,7 @@
 // The public calls, each made by a thin function whose contract is its row of `Promised` in specs/: so a row is what the code
 // promises, and no copy of it. Nothing calls these functions. The calls over a lent header are in proofs/Lent.antt.
+#![tactic(auto)]
+
 ghost use Rattle.records.specs.declared.Position.TheVariants.{Start, Current, End};
 ghost use Rattle.records.specs.declared.Request.TheVariants.{Bytes, Typed, Aligned};
 ghost use Rattle.promise.specs.declared.Call.TheVariants.{Take, Give, Discard, Rewind, SetMinimum, AddDiscarded};
@@ -123,13 +125,13 @@ pub fn c_setup(
     least: u32,
     read_only: u8,
 ) -> CBegun
-    ensures { Promised (P.cSetup header.old buf.now reserved unify policy least read_only) (result, header.new) }
+    ensures { Promised (P.c_setup header.old buf.now reserved unify policy least read_only) (result, header.new) }
 {
     exports::arena_setup(header, buf, reserved, unify, policy, least, read_only)
 }
 
 pub fn c_alloc_bytes(shape: CShape, header: &mut [u32; 6], buf: &mut [u8], size: u32) -> CAnswer
-    ensures { Promised (P.cChange shape header.old buf.old (Take (Bytes size))) (result, header.new, buf.new) }
+    ensures { Promised (P.c_change shape header.old buf.old (Take (Bytes size))) (result, header.new, buf.new) }
 {
     exports::arena_alloc_bytes(shape, header, buf, size)
 }
@@ -141,7 +143,7 @@ pub fn c_alloc(
     size: u32,
     align: u32,
 ) -> CAnswer
-    ensures { Promised (P.cChange shape header.old buf.old (Take (Typed size align))) (result, header.new, buf.new) }
+    ensures { Promised (P.c_change shape header.old buf.old (Take (Typed size align))) (result, header.new, buf.new) }
 {
     exports::arena_alloc(shape, header, buf, size, align)
 }
@@ -154,7 +156,7 @@ pub fn c_alloc_aligned_bytes(
     align: u32,
     extra: u32,
 ) -> CAnswer
-    ensures { Promised (P.cChange shape header.old buf.old (Take (Aligned size align extra))) (result, header.new, buf.new) }
+    ensures { Promised (P.c_change shape header.old buf.old (Take (Aligned size align extra))) (result, header.new, buf.new) }
 {
     exports::arena_alloc_aligned_bytes(shape, header, buf, size, align, extra)
 }
@@ -166,62 +168,62 @@ pub fn c_dealloc(
     offset: u32,
     size: u32,
 ) -> CAnswer
-    ensures { Promised (P.cChange shape header.old buf.old (Give offset size)) (result, header.new, buf.new) }
+    ensures { Promised (P.c_change shape header.old buf.old (Give offset size)) (result, header.new, buf.new) }
 {
     exports::arena_dealloc(shape, header, buf, offset, size)
 }
 
 pub fn c_discard_freelist(shape: CShape, header: &mut [u32; 6], buf: &[u8]) -> CAnswer
-    ensures { Promised (P.cChange shape header.old buf.now Discard) (result, header.new, buf.now) }
+    ensures { Promised (P.c_change shape header.old buf.now Discard) (result, header.new, buf.now) }
 {
     exports::arena_discard_freelist(shape, header, buf)
 }
 
 pub fn c_rewind_start(shape: CShape, header: &mut [u32; 6], buf: &[u8], by: u32) -> CAnswer
-    ensures { Promised (P.cChange shape header.old buf.now (Rewind (Start by))) (result, header.new, buf.now) }
+    ensures { Promised (P.c_change shape header.old buf.now (Rewind (Start by))) (result, header.new, buf.now) }
 {
     exports::arena_rewind_start(shape, header, buf, by)
 }
 
 pub fn c_rewind_current(shape: CShape, header: &mut [u32; 6], buf: &[u8], by: i64) -> CAnswer
-    ensures { Promised (P.cChange shape header.old buf.now (Rewind (Current by))) (result, header.new, buf.now) }
+    ensures { Promised (P.c_change shape header.old buf.now (Rewind (Current by))) (result, header.new, buf.now) }
 {
     exports::arena_rewind_current(shape, header, buf, by)
 }
 
 pub fn c_rewind_end(shape: CShape, header: &mut [u32; 6], buf: &[u8], by: u32) -> CAnswer
-    ensures { Promised (P.cChange shape header.old buf.now (Rewind (End by))) (result, header.new, buf.now) }
+    ensures { Promised (P.c_change shape header.old buf.now (Rewind (End by))) (result, header.new, buf.now) }
 {
     exports::arena_rewind_end(shape, header, buf, by)
 }
 
 pub fn c_set_minimum(shape: CShape, header: &mut [u32; 6], buf: &[u8], size: u32) -> CAnswer
-    ensures { Promised (P.cChange shape header.old buf.now (SetMinimum size)) (result, header.new, buf.now) }
+    ensures { Promised (P.c_change shape header.old buf.now (SetMinimum size)) (result, header.new, buf.now) }
 {
     exports::arena_set_minimum_segment_size(shape, header, buf, size)
 }
 
 pub fn c_add_discarded(shape: CShape, header: &mut [u32; 6], buf: &[u8], size: u32) -> CAnswer
-    ensures { Promised (P.cChange shape header.old buf.now (AddDiscarded size)) (result, header.new, buf.now) }
+    ensures { Promised (P.c_change shape header.old buf.now (AddDiscarded size)) (result, header.new, buf.now) }
 {
     exports::arena_increase_discarded(shape, header, buf, size)
 }
 
 pub fn c_check(shape: CShape, header: &[u32; 6], buf: &[u8]) -> bool
-    ensures { Promised (P.cCheck shape header.now buf.now) result }
+    ensures { Promised (P.c_check shape header.now buf.now) result }
 {
     exports::arena_sound(shape, header, buf)
 }
 
 pub fn c_remaining(shape: CShape, header: &[u32; 6]) -> u32
-    ensures { Promised (P.cRemaining shape header.now) result }
+    ensures { Promised (P.c_remaining shape header.now) result }
 {
     exports::arena_remaining(shape, header)
 }
 
 // The helpers that require nothing.
 pub fn data_start(reserved: u32, unify: bool) -> usize
-    ensures { Promised (P.dataStart reserved unify) result }
+    ensures { Promised (P.data_start reserved unify) result }
 {
     records::data_offset(reserved, unify)
 }
@@ -233,7 +235,7 @@ pub fn policy(code: u8) -> Named
 }
 
 pub fn head_check(shape: Shape, header: Header, buf: &[u8]) -> bool
-    ensures { Promised (P.headCheck shape header buf.now) result }
+    ensures { Promised (P.head_check shape header buf.now) result }
 {
     records::head_sound(shape, header, buf)
 }
@@ -251,19 +253,19 @@ pub fn first(header: Header) -> u32
 }
 
 pub fn set_first(header: Header, first: u32) -> Header
-    ensures { Promised (P.setFirst header first) result }
+    ensures { Promised (P.set_first header first) result }
 {
     records::with_first(header, first)
 }
 
 pub fn set_top(header: Header, top: u32) -> Header
-    ensures { Promised (P.setTop header top) result }
+    ensures { Promised (P.set_top header top) result }
 {
     records::with_top(header, top)
 }
 
 pub fn set_minimum(header: Header, least: u32) -> Header
-    ensures { Promised (P.setMinimum header least) result }
+    ensures { Promised (P.set_minimum header least) result }
 {
     records::with_minimum(header, least)
 }

@@ -13,7 +13,7 @@ use Rattle.records.specs.declared.Begun.TheVariants.{Ready, UnknownFreelist, Bad
 pub data Said : Type 0 where
   granted : Block → Said
   nothing : Said
-  givenBack : Bool → Said
+  given_back : Bool → Said
   sum : ℕ → Said
   done : Said
   refused : ℕ → List ℕ → Said
@@ -22,7 +22,7 @@ pub data Said : Type 0 where
 abbrev pub said : Answer → Said
 said (Granted b) = granted b
 said Nothing = nothing
-said (GivenBack b) = givenBack b
+said (GivenBack b) = given_back b
 said (Sum n) = sum n
 said Done = done
 said ReadOnly = refused 1 []

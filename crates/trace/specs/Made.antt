@@ -2,7 +2,7 @@
 use Rattle.std.specs.Prelude.{ℕ, ◌+◌, Bool, true, false, List, leb, length, replicate}
 use Rattle.words.specs.Word.{splice}
 use Rattle.words.specs.Pick.{pick}
-use Rattle.records.specs.Answer.{Outcome, Said, granted, nothing, givenBack, sum, done, refused}
+use Rattle.records.specs.Answer.{Outcome, Said, granted, nothing, given_back, sum, done, refused}
 use Rattle.records.specs.declared.Shape.{Shape}
 use Rattle.records.specs.declared.Header.{Header}
 use Rattle.arena.specs.Take.{taking}
@@ -28,7 +28,7 @@ filled l offset n v = pick (leb (offset + n) (length l)) (splice l offset (repli
 abbrev pub is_refused : Said → Bool
 is_refused (granted b) = false
 is_refused nothing = false
-is_refused (givenBack b) = false
+is_refused (given_back b) = false
 is_refused (sum n) = false
 is_refused done = false
 is_refused (refused number carried) = true
