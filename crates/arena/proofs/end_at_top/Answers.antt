@@ -1,8 +1,6 @@
 -- `arena::end_at_top` meets its contract: the tests of `end_at_top`, in their order.
 -- Assumes nothing.
 use mathlib.Core.Path.{sym, ◌∙◌}
-use borrow.Author.Rules.{rules}
-use borrow.Author.Tests.{not-true, not-false}
 use Rattle.arena.proofs.Takes.{ends_read_only, ends_damaged, ends_open}
 use Rattle.arena.proofs.end_at_top.Goals as goal
 

@@ -2,7 +2,6 @@
 -- Assumes nothing.
 use mathlib.Core.Path.{◌∙◌}
 use native.Mathlib.Omega.{arith}
-use borrow.Author.Rules.{rules}
 use Rattle.freelist.proofs.Arenas.{sound_head}
 use Rattle.arena.proofs.Takes.{past_none, past_missed, past_found}
 use Rattle.arena.proofs.past_top.Goals as goal

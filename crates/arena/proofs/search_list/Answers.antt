@@ -2,11 +2,9 @@
 -- Assumes nothing.
 use Prim.Native.Nat.{◌<◌}
 use native.Mathlib.Omega.{arith}
-use borrow.Author.Rules.{rules}
 use Rattle.freelist.specs.Segs.{EndsBy}
-use Rattle.freelist.specs.Sound.{free}
 use Rattle.freelist.proofs.Runs.{all_pop}
-use Rattle.arena.proofs.Lists.{Held, free_held}
+use Rattle.arena.proofs.Lists.{free_held}
 use Rattle.arena.proofs.Takes.{looks_empty, looks_small, looks_first, looks_none, looks_fit}
 use Rattle.arena.proofs.search_list.Goals as goal
 

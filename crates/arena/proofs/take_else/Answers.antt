@@ -1,14 +1,9 @@
 -- `arena::take_else` meets its contract. The answers of `taking` in the order of its tests, but for the top's.
 -- Assumes nothing.
-use mathlib.Core.Path.{◌≡◌, sym, ◌∙◌}
-use mathlib.Core.Bool.{true, false}
-use borrow.Author.Rules.{rules}
-use borrow.Author.Tests.{not-true, not-false}
+use mathlib.Core.Path.{sym, ◌∙◌}
 use lib.ListN.{length}
-use Rattle.requests.specs.Request.{well_formed, for_nothing}
 use Rattle.requests.proofs.Plans.{plain_formed}
 use Rattle.freelist.proofs.Surveys.{found_sound, found_unsound}
-use Rattle.arena.specs.Look.{end_at_top}
 use Rattle.arena.proofs.Takes.{Admitted, takes_read_only, takes_bad_layout, takes_damaged, takes_nothing, takes_unsound, takes_past}
 use Rattle.arena.proofs.take_else.Goals as goal
 
@@ -25,44 +20,44 @@ returns-then-not-head_sound c =
 pub returns-then-for_nothing : goal.returns-then-for_nothing
 returns-then-for_nothing c =
     let k : Admitted c.args.shape c.args.header (length c.args.buf.now) c.args.request c.simplify-plain.result =
-        record {
-          writable = c.if-shape.false;
-          formed = sym c.well_formed-2.ensures ∙ c.if-not-well_formed.false;
-          head = sym c.head_sound.ensures ∙ c.if-not-head_sound.false;
-          simple = c.simplify-plain.ensures;
-        } in
+    record {
+      writable = c.if-shape.false;
+      formed = sym c.well_formed-2.ensures ∙ c.if-not-well_formed.false;
+      head = sym c.head_sound.ensures ∙ c.if-not-head_sound.false;
+      simple = c.simplify-plain.ensures;
+    } in
     takes_nothing _ _ _ _ _ k (sym c.for_nothing.ensures ∙ c.if-for_nothing.true)
 
 pub returns-in_default : goal.returns-in_default
 returns-in_default c =
     let k : Admitted c.args.shape c.args.header (length c.args.buf.now) c.args.request c.simplify-plain.result =
-        record {
-          writable = c.if-shape.false;
-          formed = sym c.well_formed-2.ensures ∙ c.if-not-well_formed.false;
-          head = sym c.head_sound.ensures ∙ c.if-not-head_sound.false;
-          simple = c.simplify-plain.ensures;
-        } in
+    record {
+      writable = c.if-shape.false;
+      formed = sym c.well_formed-2.ensures ∙ c.if-not-well_formed.false;
+      head = sym c.head_sound.ensures ∙ c.if-not-head_sound.false;
+      simple = c.simplify-plain.ensures;
+    } in
     takes_unsound _ _ _ _ _ k (sym c.for_nothing.ensures ∙ c.if-for_nothing.false) c.requires (found_unsound _ _ _ (cc))
 
 pub past_top-requires : goal.past_top-requires
 past_top-requires c =
     let k : Admitted c.args.shape c.args.header (length c.args.buf.now) c.args.request c.simplify-plain.result =
-        record {
-          writable = c.if-shape.false;
-          formed = sym c.well_formed-2.ensures ∙ c.if-not-well_formed.false;
-          head = sym c.head_sound.ensures ∙ c.if-not-head_sound.false;
-          simple = c.simplify-plain.ensures;
-        } in
+    record {
+      writable = c.if-shape.false;
+      formed = sym c.well_formed-2.ensures ∙ c.if-not-well_formed.false;
+      head = sym c.head_sound.ensures ∙ c.if-not-head_sound.false;
+      simple = c.simplify-plain.ensures;
+    } in
     record { found = found_sound _ _ _ c.in-Sound.count (cc); formed = rw k.simple (plain_formed _ k.formed) }
 
 pub returns : goal.returns
 returns c =
     let k : Admitted c.args.shape c.args.header (length c.args.buf.now) c.args.request c.simplify-plain.result =
-        record {
-          writable = c.if-shape.false;
-          formed = sym c.well_formed-2.ensures ∙ c.if-not-well_formed.false;
-          head = sym c.head_sound.ensures ∙ c.if-not-head_sound.false;
-          simple = c.simplify-plain.ensures;
-        } in
+    record {
+      writable = c.if-shape.false;
+      formed = sym c.well_formed-2.ensures ∙ c.if-not-well_formed.false;
+      head = sym c.head_sound.ensures ∙ c.if-not-head_sound.false;
+      simple = c.simplify-plain.ensures;
+    } in
     c.past_top.ensures
     ∙ takes_past _ _ _ _ _ k (sym c.for_nothing.ensures ∙ c.if-for_nothing.false) c.requires (found_sound _ _ _ c.in-Sound.count (cc)).0

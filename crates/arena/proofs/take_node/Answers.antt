@@ -1,13 +1,11 @@
 -- `arena::take_node` meets its contract. `NodeOut` says what holds once the node left the list; the two answers of the segment rule are those of `serve`.
 -- Assumes nothing.
-use mathlib.Core.Path.{sym, ◌∙◌}
+use mathlib.Core.Path.{◌∙◌}
 use native.Mathlib.Omega.{arith}
-use borrow.Author.Rules.{rules}
-use Rattle.freelist.specs.Sound.{free}
 use Rattle.freelist.proofs.Seeks.{next_in}
 use Rattle.freelist.proofs.Arenas.{sound_ends}
 use Rattle.arena.proofs.Lists.{free_held}
-use Rattle.arena.proofs.Serves.{NodeOut, node_out, split_inside, split_small, serves_whole, serves_split}
+use Rattle.arena.proofs.Serves.{node_out, split_inside, split_small, serves_whole, serves_split}
 use Rattle.arena.proofs.take_node.Goals as goal
 
 pub node_at-size-requires : goal.node_at-size-requires

@@ -2,13 +2,10 @@
 -- Assumes nothing.
 use mathlib.Core.Path.{sym, ◌∙◌}
 use native.Mathlib.Omega.{arith}
-use borrow.Author.Rules.{rules}
-use lib.ListN.{length}
-use Rattle.records.specs.Head.{Head}
 use Rattle.records.proofs.Facts.{head_facts}
 use Rattle.requests.specs.Request.{Planned}
 use Rattle.requests.proofs.Plans.{plain_formed}
-use Rattle.arena.proofs.Takes.{Met, met, takes_room}
+use Rattle.arena.proofs.Takes.{met, takes_room}
 use Rattle.arena.proofs.take_top.Goals as goal
 
 pub at_top-room-requires : goal.at_top-room-requires
