@@ -1,0 +1,133 @@
+-- What a thin function is: its code, and its contract, made of its core's.
+-- It takes a shape, a lent header and the rest of the core's parameters. It copies the header out, calls the core on the copy and on the rest, stores the reply's header back and answers the reply's answer.
+--     thin             the code: the core's name, the MIR types of the rest, and how the rest is handed on, by the locals `more`, the statements `mid` and the operands xs
+--     thin_by          the same, with how the reply's header is stored: by the locals `aside` and the statements `back`.        straight, by_copy     it is stored from the reply, as in `thin`;  from a copy of its own, as the compiler has it
+--     Says, Core       what the core ensures of its reply, and its contract.        ts are its parameters after the header, and js says which last values it speaks of
+--     Tells, Thin      what the function ensures of its answer, and its contract: at exit the header has a last value and its borrow is handed back, closed, and the rest has what the core says of it
+--     Claim            what the core says of a reply is what the function tells of the answer and of the header that it leaves
+-- These are definitions. Assumes nothing.
+use Prim.Native.Nat.{ℕ, suc}
+use mathlib.Core.List.{List, [], ◌∷◌}
+use lib.ListN.{length}
+use seplogic.Ra.Ura.{Ura}
+use mir.Syntax.{Callee, Ty, ty_ref, named, mut, deref, field, place, Opd as Operand, copy, rv_opd, Body, seq, assign, return, call, local, value_local, Fn}
+use mir.Val.{Val}
+use base.Logic.{SProp, ent, sep, ex, emp}
+use base.Fml.{Fml, ftrue, fsep, fres, fbor}
+use types.Logic.{Logic, sem}
+use types.SemTy.{Body as Borrowed}
+use contract.Lifetimes.{Lfts, Shares, toks}
+use denote.RattleType.{RattleType, Denots, Valss, flat, owns}
+use denote.Memory.{pointee, mem}
+use denote.Ref.{MutRef}
+use denote.Signature.{Slot, plain, types_at}
+use denote.Exit.{yes}
+use denote.Triple.Statement.{Contract}
+use denote.Triple.Spec.{triple_of}
+use denote.Triple.End.{Kepts, Fins, lasts_of}
+use denote.Triple.Entry.{Args}
+use denote.Triple.Clauses.{Ended, AtExit, at_exit, closing}
+use Rattle.records.specs.contracts.Shape as S
+use Rattle.records.proofs.Shape.TheLaws as S'
+use Rattle.records.specs.declared.Header.{Header}
+use Rattle.records.specs.contracts.Header as T
+use Rattle.records.proofs.Header.TheLaws as T'
+use Rattle.records.specs.declared.Answer.{Answer}
+use Rattle.records.specs.contracts.Answer as X
+use Rattle.records.proofs.Answer.TheLaws as X'
+use Rattle.records.specs.declared.Reply.{Reply}
+use Rattle.records.specs.contracts.Reply as D
+use Rattle.records.proofs.Reply.TheLaws as D'
+use Rattle.lent.proofs.Locals.{locals, #after}
+
+-- ---- the code. Local 0 is the answer, 1 the shape, 2 the lent header; then come the rest, the reply, the header's copy, `more` and `aside`
+abbrev pub #reply : List Ty → ℕ
+#reply τs = suc (suc (suc (length τs)))
+
+abbrev pub #copy : List Ty → ℕ
+#copy τs = suc (#reply τs)
+
+abbrev pub #more : List Ty → ℕ
+#more τs = suc (#copy τs)
+
+abbrev pub lent_header : Ty
+lent_header = ty_ref (named 0) mut (pointee (T.the_row).written)
+
+abbrev pub #aside : (τs more : List Ty) → ℕ
+#aside τs more = #after (#more τs) more
+
+abbrev pub straight : List Ty → Body → Body
+straight τs = seq (assign (place 2 (deref T'.mir ∷ [])) (rv_opd (copy (place (#reply τs) (field 1 ∷ [])))))
+
+abbrev pub by_copy : (τs more : List Ty) → Body → Body
+by_copy τs more rest =
+    seq (assign (place (#aside τs more) []) (rv_opd (copy (place (#reply τs) (field 1 ∷ [])))))
+    (seq (assign (place 2 (deref T'.mir ∷ [])) (rv_opd (copy (place (#aside τs more) [])))) rest)
+
+abbrev pub thin_by : Callee → (τs more aside : List Ty) → (Body → Body) → List Operand → (Body → Body) → Fn
+thin_by core τs more aside mid xs back = record {
+  lifetimes = 2;
+  outlives = [];
+  ty_params = [];
+  givens = 0;
+  params = suc (suc (length τs));
+  locals = local X'.mir value_local ∷ local S'.mir value_local ∷ local lent_header value_local ∷ locals τs (local D'.mir value_local ∷ local T'.mir value_local ∷ locals more (locals aside []));
+  body = seq (assign (place (#copy τs) []) (rv_opd (copy (place 2 (deref T'.mir ∷ [])))))
+      (mid (seq (call core (copy (place 1 []) ∷ copy (place (#copy τs) []) ∷ xs) (place (#reply τs) []))
+      (back (seq (assign (place 0 []) (rv_opd (copy (place (#reply τs) (field 0 ∷ []))))) return))));
+}
+
+abbrev pub thin : Callee → (τs more : List Ty) → (Body → Body) → List Operand → Fn
+thin core τs more mid xs = thin_by core τs more [] mid xs (straight τs)
+
+-- ---- the contracts
+module _ (ts : List (Slot 1)) where
+  abbrev pub Rows : Lfts 2 → List RattleType
+  Rows κs = S.the_row ∷ MutRef (named 0) κs.0 T.the_row ∷ types_at ts κs.1
+
+  -- the header's borrow
+  abbrev pub borrow : (κs : Lfts 2) → Denots (Rows κs) → Fml
+  borrow κs a = fbor κs.0 (Borrowed (mem T.the_row) a.1.0.ref_ptr.0 a.1.0.ref_ptr.1 a.1.0.ghost_name)
+
+  module _ (js : Kepts ts) where
+    abbrev by_value : Ended
+    by_value = record {
+      signature = record { lifetimes = 1; outlives = []; params = plain (λ _. S.the_row) ∷ plain (λ _. T.the_row) ∷ ts; result = plain (λ _. D.the_row) };
+      kept = (yes, (yes, js));
+    }
+
+    module _ {M : Type 1} (𝓤 : Ura M) where
+      abbrev pub Says : Type 2
+      Says = (κs : Lfts 1) → Args by_value.signature κs → Reply → AtExit by_value κs → SProp 𝓤
+
+      -- what the core says, at the record that lies behind the lent header
+      abbrev pub Said : Says → (κs : Lfts 2) (a : Denots (Rows κs)) → Reply → Fins κs.1 ts js a.1.1 → SProp 𝓤
+      Said says κs a r ws = says κs.1 (a.0, (a.1.0.now, a.1.1)) r (at_exit by_value κs.1 (a.0, (a.1.0.now, a.1.1)) (tt, (tt, ws)))
+
+      abbrev pub Tells : Type 2
+      Tells = (κs : Lfts 2) (a : Denots (Rows κs)) → Answer → Unit {0} × (Header × Fins κs.1 ts js a.1.1) → SProp 𝓤
+
+      abbrev pub Claim : Says → Tells → Type 1
+      Claim says tells = (κs : Lfts 2) (a : Denots (Rows κs)) (r : Reply) (ws : Fins κs.1 ts js a.1.1) → ent 𝓤 (Said says κs a r ws) (tells κs a r.answer (tt, (r.header, ws)))
+
+      module _ (𝓛 : Logic 𝓤) where
+        open 𝓛 use {H}
+
+        abbrev pub Core : Says → Contract 𝓤
+        Core says = triple_of 𝓛 by_value.signature (closing 𝓛 by_value (λ κs x. record { ghost = Unit {0}; requires = λ _. emp 𝓤; ensures = λ _. says κs x }))
+
+        module _ (tells : Tells) where
+          module _ (κs : Lfts 2) (a : Denots (Rows κs)) where
+            abbrev pub Leaves : Answer → Unit {0} × (Header × Fins κs.1 ts js a.1.1) → SProp 𝓤
+            Leaves r ws = sep 𝓤 (sem 𝓛 (fsep ftrue (fsep (fsep (fres a.1.0.ghost_name ((T.the_row).coded.code ws.1.0)) (borrow κs a)) (lasts_of κs.1 ts js a.1.1 ws.1.1)))) (tells κs a r ws)
+
+            abbrev pub Answers : Shares 2 → Val → Answer → SProp 𝓤
+            Answers qs v r = sep 𝓤 (sep 𝓤 (toks 𝓛 2 κs qs) (sem 𝓛 ((X.the_row).own_val r (v ∷ [])))) (ex 𝓤 (Leaves r))
+
+          abbrev pub Thin : Contract 𝓤
+          Thin = record {
+            Ghost = ((κs : Lfts 2) × Shares 2 × Unit {0} × Denots (Rows κs) × Valss (Rows κs)) × Unit {0};
+            args = λ y. flat (Rows y.0.0) y.0.4;
+            pre = λ y. sep 𝓤 (sep 𝓤 (toks 𝓛 2 y.0.0 y.0.1) (sem 𝓛 (owns (Rows y.0.0) y.0.3 y.0.4))) (emp 𝓤);
+            post = λ y v. H.⇛ (ex 𝓤 (Answers y.0.0 y.0.3 y.0.1 v));
+          }
