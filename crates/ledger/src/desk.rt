@@ -2,18 +2,18 @@
 // the table as it is: here it is the last call on its arena.
 ghost use Rattle.std.specs.Prelude.{◌≤◌, ◌<◌};
 
-use libc::STDOUT_FILENO;
 use records::{Answer, Begun, Block, Header, Policy, Reply, Settings, Shape};
+use std::io;
 use trace::{Call, Kept};
 
 // A place for a held block.
-#[derive(Drop)]
+#[derive(Clone, Copy)]
 pub struct Slot {
     pub held: bool,
     pub block: Block,
 }
 
-#[derive(Drop)]
+#[derive(Clone, Copy)]
 pub struct Desk {
     pub shape: Shape,
     pub header: Header,
@@ -49,10 +49,8 @@ fn lowest(slots: [Slot; 4]) -> usize
 }
 
 // What stands for an arena whose setup was refused: a read-only one of no bytes.
-fn refused(number: u64) -> Desk {
-    io::write_all(STDOUT_FILENO, b"answer=refused no=");
-    io::print_decimal(STDOUT_FILENO, number);
-    io::write_all(STDOUT_FILENO, b"\n");
+fn refused(rt: &impl Print, number: u64) -> io::Result<Desk> {
+    println!(rt; "answer=refused no={number}")?;
     let shape = Shape {
         cap: 0,
         reserved: 0,
@@ -68,54 +66,54 @@ fn refused(number: u64) -> Desk {
         discarded: 0,
     };
     let slots = no_blocks();
-    Desk {
+    Ok(Desk {
         shape,
         header,
         slots,
-    }
+    })
 }
 
 // A fresh arena; a good setup writes nothing.
-pub fn open(settings: Settings, buf: &[u8]) -> Desk {
+pub fn open(rt: &impl Print, settings: Settings, buf: &[u8]) -> io::Result<Desk> {
     match records::setup(settings, buf) {
         Begun::Ready(arena) => {
             let shape = arena.shape;
             let header = arena.header;
             let slots = no_blocks();
-            Desk {
+            Ok(Desk {
                 shape,
                 header,
                 slots,
-            }
+            })
         }
-        Begun::UnknownFreelist => refused(2),
-        Begun::BadSetup => refused(3),
+        Begun::UnknownFreelist => refused(rt, 2),
+        Begun::BadSetup => refused(rt, 3),
     }
 }
 
 // Makes a call and writes the line of its answer.
-fn ask(desk: Desk, buf: &mut [u8], call: Call, kept: Kept) -> Reply {
+fn ask(rt: &impl Print, desk: Desk, buf: &mut [u8], call: Call, kept: Kept) -> io::Result<Reply> {
     let shape = desk.shape;
     let header = desk.header;
     let reply = trace::make(shape, header, buf, call);
     let mut out = [0u8; 256];
     let said = trace::put_line(&mut out, 0, call, reply, kept);
     let n = trace::put(&mut out, said, b"\n");
-    io::write_all(STDOUT_FILENO, &out[0..n]);
-    reply
+    rt.write_all(&out[0..n])?;
+    Ok(reply)
 }
 
 // A call by its numbers. A granted block takes the lowest empty slot; a request with no empty slot is not made.
-pub fn call(desk: Desk, buf: &mut [u8], call: Call) -> Desk {
+pub fn call(rt: &impl Print, desk: Desk, buf: &mut [u8], call: Call) -> io::Result<Desk> {
     let mut slots = desk.slots;
     let free = lowest(slots);
     if free == 4 {
         if let Call::Take(_) = call {
-            io::write_all(STDOUT_FILENO, b"answer=full\n");
-            return desk;
+            println!(rt; "answer=full")?;
+            return Ok(desk);
         }
     }
-    let reply = ask(desk, buf, call, Kept::Slot(free));
+    let reply = ask(rt, desk, buf, call, Kept::Slot(free))?;
     let shape = desk.shape;
     let header = reply.header;
     let answer = reply.answer;
@@ -124,37 +122,37 @@ pub fn call(desk: Desk, buf: &mut [u8], call: Call) -> Desk {
             slots[free] = Slot { held: true, block };
         }
     }
-    Desk {
+    Ok(Desk {
         shape,
         header,
         slots,
-    }
+    })
 }
 
 // Gives the block of a slot back. It is held no more, unless the call is refused.
-pub fn give(desk: Desk, buf: &mut [u8], slot: usize) -> Desk
+pub fn give(rt: &impl Print, desk: Desk, buf: &mut [u8], slot: usize) -> io::Result<Desk>
     requires { slot < 4 }
 {
     let mut slots = desk.slots;
     let kept = slots[slot];
     if !kept.held {
-        io::write_all(STDOUT_FILENO, b"answer=empty\n");
-        return desk;
+        println!(rt; "answer=empty")?;
+        return Ok(desk);
     }
     let block = kept.block;
     let back = Call::Give {
         offset: block.memory_offset,
         size: block.memory_size,
     };
-    let reply = ask(desk, buf, back, Kept::Unnamed);
+    let reply = ask(rt, desk, buf, back, Kept::Unnamed)?;
     let shape = desk.shape;
     let header = reply.header;
     let answer = reply.answer;
     let held = trace::refused(answer);
     slots[slot] = Slot { held, block };
-    Desk {
+    Ok(Desk {
         shape,
         header,
         slots,
-    }
+    })
 }

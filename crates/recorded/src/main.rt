@@ -5,19 +5,45 @@
 // twenty lines that differ are shown with our answer. A line that cannot be read differs, and so does a call with no
 // arena. In the end arenas, writes and calls are counted, and the lines of every kind that differ: all writes and calls
 // that are counted were compared.
+#![tactic(auto)]
+
+ghost use Rattle.std.specs.Prelude.{◌≡◌, ◌≤◌, length, IfOk};
+
 mod answer;
 mod replay;
 mod tally;
 
-use libc::{STDIN_FILENO, STDOUT_FILENO};
+use std::io;
 
-fn main() {
-    let mut text = [0u8; 524288];
-    let n = io::read_full(STDIN_FILENO, &mut text);
-    if n == 524288 {
-        io::write_all(STDOUT_FILENO, b"the list is too long\n");
-        return;
+// Reads until `text` is full or the input ends, and answers how many bytes it put at the start of `text`.
+fn read_full<R: io::Read>(input: &mut R, text: &mut [u8]) -> io::Result<usize>
+    ensures { IfOk result (λ n. n ≤ length text.new) }
+{
+    let mut done = 0;
+    while done < text.len() {
+        let n = input.read(&mut text[done..])?;
+        if n == 0 {
+            break;
+        }
+        done += n;
     }
-    let mut buf = io::buffer();
-    tally::report(replay::all(&text[..n], &mut buf));
+    Ok(done)
+}
+
+// Room for the list. The `ensures` gives only the length, which lending the array as a slice needs.
+fn room() -> [u8; 524288]
+    ensures { 524288 ≡ length result }
+{
+    [0; 524288]
+}
+
+fn main(rt: HostRuntime) -> io::Result<()> {
+    let mut text = room();
+    let n = read_full(&mut rt.stdin(), &mut text)?;
+    if n == 524288 {
+        return rt.write_all(b"the list is too long\n");
+    }
+    let mut buf = [0u8; 4096];
+    let tally = replay::all(&rt, &text[..n], &mut buf)?;
+    tally::report(&rt, tally)
 }

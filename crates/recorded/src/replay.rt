@@ -4,16 +4,17 @@ ghost use Rattle.std.specs.Prelude.{◌≤◌, length};
 use crate::answer::{put_reply, put_written};
 use crate::tally::{Tally, differs, judge, more, none};
 use records::{Arena, Begun, Settings};
+use std::io;
 use trace::{Call, Line};
 
 // The arena in use, if there is one.
-#[derive(Drop)]
+#[derive(Clone, Copy)]
 enum Desk {
     Closed,
     Open(Arena),
 }
 
-#[derive(Drop)]
+#[derive(Clone, Copy)]
 struct Run {
     desk: Desk,
     tally: Tally,
@@ -44,36 +45,49 @@ fn arrow(line: &[u8]) -> usize
     i
 }
 
-fn closed(tally: Tally, why: &[u8]) -> Run {
-    Run {
+fn closed(rt: &impl Print, tally: Tally, why: &[u8]) -> io::Result<Run> {
+    Ok(Run {
         desk: Desk::Closed,
-        tally: differs(tally, why),
-    }
+        tally: differs(rt, tally, why)?,
+    })
 }
 
 // A fresh arena over the zeroed first `cap` bytes.
-fn set_up(tally: Tally, cap: u32, settings: Settings, buf: &mut [u8]) -> Run {
+fn set_up(
+    rt: &impl Print,
+    tally: Tally,
+    cap: u32,
+    settings: Settings,
+    buf: &mut [u8],
+) -> io::Result<Run> {
     let size = cap as usize;
     if buf.len() < size {
-        return closed(tally, b" -> the buffer is too short");
+        return closed(rt, tally, b" -> the buffer is too short");
     }
     trace::fill(buf, 0, size, 0);
     match records::setup(settings, &buf[0..size]) {
         Begun::Ready(arena) => {
             let mut next = tally;
             next.arenas = more(tally.arenas);
-            Run {
+            Ok(Run {
                 desk: Desk::Open(arena),
                 tally: next,
-            }
+            })
         }
-        Begun::UnknownFreelist => closed(tally, b" -> answer=refused no=2"),
-        Begun::BadSetup => closed(tally, b" -> answer=refused no=3"),
+        Begun::UnknownFreelist => closed(rt, tally, b" -> answer=refused no=2"),
+        Begun::BadSetup => closed(rt, tally, b" -> answer=refused no=3"),
     }
 }
 
 // Makes a call and compares the answer with what stands after the call.
-fn ask(tally: Tally, arena: Arena, buf: &mut [u8], call: Call, theirs: &[u8]) -> Run {
+fn ask(
+    rt: &impl Print,
+    tally: Tally,
+    arena: Arena,
+    buf: &mut [u8],
+    call: Call,
+    theirs: &[u8],
+) -> io::Result<Run> {
     let shape = arena.shape;
     let header = arena.header;
     let reply = trace::make(shape, header, buf, call);
@@ -83,17 +97,18 @@ fn ask(tally: Tally, arena: Arena, buf: &mut [u8], call: Call, theirs: &[u8]) ->
     let n = put_reply(&mut out, call, answer, shape, after, &buf[..]);
     let mut next = tally;
     next.calls = more(tally.calls);
-    Run {
+    Ok(Run {
         desk: Desk::Open(Arena {
             shape,
             header: after,
         }),
-        tally: judge(next, &out[0..n], theirs),
-    }
+        tally: judge(rt, next, &out[0..n], theirs)?,
+    })
 }
 
 // Makes a caller's write and compares what the arena then holds.
 fn write(
+    rt: &impl Print,
     tally: Tally,
     arena: Arena,
     buf: &mut [u8],
@@ -101,7 +116,7 @@ fn write(
     size: u32,
     byte: u8,
     theirs: &[u8],
-) -> Run {
+) -> io::Result<Run> {
     trace::fill(buf, offset as usize, size as usize, byte);
     let shape = arena.shape;
     let header = arena.header;
@@ -109,57 +124,73 @@ fn write(
     let n = put_written(&mut out, shape, header, &buf[..]);
     let mut next = tally;
     next.writes = more(tally.writes);
-    Run {
+    Ok(Run {
         desk: Desk::Open(arena),
-        tally: judge(next, &out[0..n], theirs),
-    }
+        tally: judge(rt, next, &out[0..n], theirs)?,
+    })
 }
 
 // A line over an arena: what it says, and what stands after that.
-fn answer(tally: Tally, arena: Arena, buf: &mut [u8], said: Line, theirs: &[u8]) -> Run {
+fn answer(
+    rt: &impl Print,
+    tally: Tally,
+    arena: Arena,
+    buf: &mut [u8],
+    said: Line,
+    theirs: &[u8],
+) -> io::Result<Run> {
     let shape = arena.shape;
     let cap = shape.cap as usize;
     if buf.len() < cap {
-        return closed(tally, b" -> the buffer is too short");
+        return closed(rt, tally, b" -> the buffer is too short");
     }
     match said {
-        Line::Call(call) => ask(tally, arena, &mut buf[0..cap], call, theirs),
+        Line::Call(call) => ask(rt, tally, arena, &mut buf[0..cap], call, theirs),
         Line::Fill { offset, size, byte } => {
-            write(tally, arena, &mut buf[0..cap], offset, size, byte, theirs)
+            write(
+                rt,
+                tally,
+                arena,
+                &mut buf[0..cap],
+                offset,
+                size,
+                byte,
+                theirs,
+            )
         }
-        _ => Run {
+        _ => Ok(Run {
             desk: Desk::Open(arena),
-            tally: differs(tally, b" -> not read"),
-        },
+            tally: differs(rt, tally, b" -> not read")?,
+        }),
     }
 }
 
 // One line. A setup has no answer.
-fn step(run: Run, line: &[u8], buf: &mut [u8]) -> Run {
+fn step(rt: &impl Print, run: Run, line: &[u8], buf: &mut [u8]) -> io::Result<Run> {
     let desk = run.desk;
     let mut tally = run.tally;
     tally.line = more(tally.line);
     let cut = arrow(line);
     let said = trace::read_line(&line[0..cut]);
     if let Line::Other = said {
-        return Run {
+        return Ok(Run {
             desk,
-            tally: differs(tally, b" -> not read"),
-        };
+            tally: differs(rt, tally, b" -> not read")?,
+        });
     }
     if let Line::Setup { cap, settings } = said {
         if cut == line.len() {
-            return set_up(tally, cap, settings, buf);
+            return set_up(rt, tally, cap, settings, buf);
         }
     }
     let Desk::Open(arena) = desk else {
-        return closed(tally, b" -> no arena");
+        return closed(rt, tally, b" -> no arena");
     };
-    answer(tally, arena, buf, said, &line[cut..])
+    answer(rt, tally, arena, buf, said, &line[cut..])
 }
 
 // Every line of the text.
-pub fn all(text: &[u8], buf: &mut [u8]) -> Tally {
+pub fn all(rt: &impl Print, text: &[u8], buf: &mut [u8]) -> io::Result<Tally> {
     let mut run = Run {
         desk: Desk::Closed,
         tally: none(),
@@ -167,8 +198,8 @@ pub fn all(text: &[u8], buf: &mut [u8]) -> Tally {
     let mut at: usize = 0;
     while at < text.len() {
         let end = trace::line_end(text, at);
-        run = step(run, &text[at..end], buf);
+        run = step(rt, run, &text[at..end], buf)?;
         at = end + 1;
     }
-    run.tally
+    Ok(run.tally)
 }

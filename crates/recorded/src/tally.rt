@@ -1,11 +1,11 @@
 // What is counted, and what is shown of it.
-use libc::STDOUT_FILENO;
+use std::io;
 
 // At most this many lines that differ are shown.
 const SHOWN: u64 = 20;
 
 // `line` is the number of the line in hand.
-#[derive(Drop)]
+#[derive(Clone, Copy)]
 pub struct Tally {
     pub line: u64,
     pub arenas: u64,
@@ -33,34 +33,31 @@ pub fn more(n: u64) -> u64 {
 }
 
 // Counts the line in hand as one that differs, and shows what stands for it on our side.
-pub fn differs(tally: Tally, ours: &[u8]) -> Tally {
+pub fn differs(rt: &impl Print, tally: Tally, ours: &[u8]) -> io::Result<Tally> {
     let mut next = tally;
     next.differ = more(tally.differ);
     if next.differ <= SHOWN {
-        io::write_all(STDOUT_FILENO, b"line ");
-        io::print_decimal(STDOUT_FILENO, tally.line);
-        io::write_all(STDOUT_FILENO, ours);
-        io::write_all(STDOUT_FILENO, b"\n");
+        let line = tally.line;
+        print!(rt; "line {line}")?;
+        rt.write_all(ours)?;
+        rt.write_all(b"\n")?;
     }
-    next
+    Ok(next)
 }
 
 // Compares our answer with the list's.
-pub fn judge(tally: Tally, ours: &[u8], theirs: &[u8]) -> Tally {
+pub fn judge(rt: &impl Print, tally: Tally, ours: &[u8], theirs: &[u8]) -> io::Result<Tally> {
     if check::same(ours, theirs) {
-        return tally;
+        return Ok(tally);
     }
-    differs(tally, ours)
+    differs(rt, tally, ours)
 }
 
-pub fn report(tally: Tally) {
-    io::write_all(STDOUT_FILENO, b"set up ");
-    io::print_decimal(STDOUT_FILENO, tally.arenas);
-    io::write_all(STDOUT_FILENO, b" arenas, made ");
-    io::print_decimal(STDOUT_FILENO, tally.writes);
-    io::write_all(STDOUT_FILENO, b" writes\ncompared ");
-    io::print_decimal(STDOUT_FILENO, tally.calls);
-    io::write_all(STDOUT_FILENO, b" calls, ");
-    io::print_decimal(STDOUT_FILENO, tally.differ);
-    io::write_all(STDOUT_FILENO, b" differ\n");
+pub fn report(rt: &impl Print, tally: Tally) -> io::Result<()> {
+    let arenas = tally.arenas;
+    let writes = tally.writes;
+    let calls = tally.calls;
+    let differ = tally.differ;
+    println!(rt; "set up {arenas} arenas, made {writes} writes")?;
+    println!(rt; "compared {calls} calls, {differ} differ")
 }

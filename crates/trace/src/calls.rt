@@ -7,7 +7,7 @@ ghost use Rattle.trace.specs.Made.{made, filled};
 use records::{Header, Position, Reply, Request, Shape};
 
 // Every call that may change an arena.
-#[derive(Drop)]
+#[derive(Clone, Copy)]
 pub enum Call {
     Take(Request),
     Give { offset: u32, size: u32 },

@@ -6,7 +6,7 @@ ghost use Rattle.trace.specs.Numeral.{Says, Counted};
 const ROOM: u64 = 1000000000000000000;
 
 // How far a line is read, and the number read last. What is missing makes a cursor bad, and it stays so.
-#[derive(Drop)]
+#[derive(Clone, Copy)]
 pub struct Cursor {
     pub at: usize,
     pub good: bool,
@@ -14,7 +14,7 @@ pub struct Cursor {
 }
 
 // What digits say, if it is a number.
-#[derive(Drop)]
+#[derive(Clone, Copy)]
 enum Value {
     Is(u64),
     Unclear,

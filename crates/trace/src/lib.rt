@@ -1,5 +1,7 @@
 // Calls and answers as lines of text, in the keys of document 02, Req 01. Lines are read into values, calls are made on
 // an arena, and answers are put into a lent buffer. Nothing here reads or writes a file.
+#![tactic(auto)]
+
 mod calls;
 mod cursor;
 mod lines;

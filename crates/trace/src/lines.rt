@@ -6,7 +6,7 @@ use crate::cursor::{Cursor, begin, ended, field, number, word};
 use records::{Position, Request, Settings};
 
 // What a line says.
-#[derive(Drop)]
+#[derive(Clone, Copy)]
 pub enum Line {
     Setup { cap: u32, settings: Settings },
     Call(Call),

@@ -8,7 +8,7 @@ use crate::calls::Call;
 use records::{Answer, Block, Header, Reply};
 
 // Where a granted block is kept: in a slot that the answer names, or in none that it names.
-#[derive(Drop)]
+#[derive(Clone, Copy)]
 pub enum Kept {
     Slot(usize),
     Unnamed,
