@@ -1,5 +1,5 @@
-/* The arena, for C: an allocator over one lent buffer. Link target/staticlib/libexports.a, which `rt staticlib exports` writes for x86-64, or
- * target/native/libexports.a, which tools/native makes on Arm.
+/* The arena, for C: an allocator over one lent buffer. Link target/staticlib/libexports.a, which tools/library makes for x86-64, or
+ * target/native/libexports.a, which tools/native makes for Arm.
  *
  * What crosses, and in which layout (little-endian):
  *

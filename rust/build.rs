@@ -9,7 +9,7 @@ fn main() {
     let home = PathBuf::from(env::var_os("CARGO_MANIFEST_DIR").expect("set by cargo"));
     let repository = home.parent().expect("the repository");
     let (usual, command) = match env::var("CARGO_CFG_TARGET_ARCH").as_deref() {
-        Ok("x86_64") => ("target/staticlib", "rt staticlib exports"),
+        Ok("x86_64") => ("target/staticlib", "tools/library"),
         _ => ("target/native", "tools/native"),
     };
     let folder = repository.join(env::var_os("ARENA_LIB_DIR").unwrap_or(usual.into()));

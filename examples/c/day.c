@@ -1,6 +1,6 @@
 /* A small day over one lent buffer: two leases, a lease given back twice, a full arena. Every refusal is a value.
  *
- * From the repository's root, after `rt staticlib exports`:
+ * From the repository's root, after `tools/library`:
  *
  *   cc -std=c11 -Wall -Wextra -Werror -pedantic -Iinclude examples/c/day.c target/staticlib/libexports.a -o target/day
  *   target/day | diff examples/c/day.stdout -
