@@ -121,8 +121,8 @@ crossing c n l call = crossed_by n (call (shape_in c) (header_of n) l)
 
 -- what setup is asked for
 abbrev pub settings_of : ℕ → ℕ → ℕ → ℕ → ℕ → Settings
-settings_of reserved unify policy least readOnly =
-    record { reserved = reserved; unify = yes unify; policy = policy; minimum_segment_size = least; read_only = yes readOnly }
+settings_of reserved unify policy least read_only =
+    record { reserved = reserved; unify = yes unify; policy = policy; minimum_segment_size = least; read_only = yes read_only }
 
 -- all that setup leaves on the other side
 pub record Opened : Type 0 where
@@ -150,6 +150,6 @@ unopened (Known f) = begun_of 3 no_shape
 
 -- setup over a buffer of cap bytes
 unfoldable pub opening : ℕ → ℕ → ℕ → ℕ → ℕ → ℕ → List ℕ → Opened
-opening reserved unify policy least readOnly cap n =
-    pick (is_truth unify && is_truth readOnly) (opening_by (setting_up (settings_of reserved unify policy least readOnly) cap) n)
+opening reserved unify policy least read_only cap n =
+    pick (is_truth unify && is_truth read_only) (opening_by (setting_up (settings_of reserved unify policy least read_only) cap) n)
     (opened (unopened (policy_of policy)) n)
