@@ -18,7 +18,7 @@ use denote.Laws.{Typed}
 use denote.Slice.{slice_val, slice_ty}
 use Rattle.lent.proofs.Locals.{held, copies, found, next, reads_as, reads_at, reads_all}
 use Rattle.lent.proofs.Form.{#more}
-use Rattle.lent.proofs.Walk.{HandsBy}
+use Rattle.lent.proofs.Walk.{Hands}
 
 abbrev bytes : Lifetime → Ty
 bytes ℓ = ty_ref ℓ mut (ty_int w8)
@@ -29,12 +29,12 @@ lend m rest =
     (seq (assign (place (suc m) []) (aggregate (copy (place m []) ∷ copy (place 3 (field 1 ∷ [])) ∷ []))) rest)
 
 module _ {M : Type 1} {𝓤 : Ura M} (𝓛 : Logic 𝓤) (τs : List Ty) where
-  pub as_it_is : {aside : List Ty} {vs : List Val} → Typed τs vs → HandsBy 𝓛 τs [] aside vs (λ rest. rest) (copies 3 τs)
-  as_it_is {aside} {vs} ty = record {
+  pub as_it_is : {vs : List Val} → Typed τs vs → Hands 𝓛 τs [] vs (λ rest. rest) (copies 3 τs)
+  as_it_is {vs} ty = record {
     typed = ty;
     us = [];
-    lends = λ C Λ E E' bs ms cs at at' Γ p rest. step (λ s. s);
-    reads = λ E E' bs ms cs at at' Γ. reads_all ! τs bs vs 3 E' ty at;
+    lends = λ C Λ E E' bs ms at at' Γ p rest. step (λ s. s);
+    reads = λ E E' bs ms at at' Γ. reads_all ! τs bs vs 3 E' ty at;
   }
 
   abbrev slice : Ty
@@ -46,16 +46,16 @@ module _ {M : Type 1} {𝓤 : Ura M} (𝓛 : Logic 𝓤) (τs : List Ty) where
   abbrev m : ℕ
   m = #more (slice ∷ τs)
 
-  pub lent_again : {aside : List Ty} {b o n : ℕ} {vs : List Val} → Typed (slice ∷ τs) (slice_val (b, o) n ∷ vs) → HandsBy 𝓛 (slice ∷ τs) anew aside (slice_val (b, o) n ∷ vs) (lend m) (copy (place (suc m) []) ∷ copies 4 τs)
-  lent_again {aside} {b} {o} {n} {vs} ty = record {
+  pub lent_again : {b o n : ℕ} {vs : List Val} → Typed (slice ∷ τs) (slice_val (b, o) n ∷ vs) → Hands 𝓛 (slice ∷ τs) anew (slice_val (b, o) n ∷ vs) (lend m) (copy (place (suc m) []) ∷ copies 4 τs)
+  lent_again {b} {o} {n} {vs} ty = record {
     typed = ty;
     us = vptr b o ∷ slice_val (b, o) n ∷ [];
-    lends = λ C Λ E E' bs ms cs at at' Γ p rest. step (λ s. split ! $ split ! $ move ! (3 ∷ []) $ split ! $ split ! $ move ! (2 ∷ []) $ split ! $ split ! $
+    lends = λ C Λ E E' bs ms at at' Γ p rest. step (λ s. split ! $ split ! $ move ! (3 ∷ []) $ split ! $ split ! $ move ! (2 ∷ []) $ split ! $ split ! $
         -- [room for the slice made anew; …; nothing; room for the pointer at 3; …; the slice at 5; …; the rest's cells; …]
         assigns ! (addr ! (found ! at (fld ! refl (hop ! (look_in ! 5 (sub ! 0 refl (whole !))) (stop !))))) (found ! at' (stop !)) (init ! 3 refl (tt, tt)) $
         assigns ! (agg ! (and_then ! (load ! (found ! at' (stop !)) (look ! 3 refl)) (and_then ! (load ! (found ! at (fld ! refl (stop !))) (look_in ! 5 (sub ! 1 refl (whole !)))) (no_more !)))) (found ! (next E m at') (stop !)) (init ! 0 refl (tt, ty.0.1)) $
         join ! $ join ! $ move ! (1 ∷ 2 ∷ []) $ join ! $ join ! $ move ! (1 ∷ 2 ∷ []) $ join ! $ move ! (0 ∷ 2 ∷ []) $ join ! $ s);
-    reads = λ E E' bs ms cs at at' Γ.
+    reads = λ E E' bs ms at at' Γ.
         let own : Item 𝓤 = ‵ (fat full_share slice bs.0 zero (slice_val (b, o) n)) ⊛ ‵ (fdies slice bs.0) in
         let pointer : Item 𝓤 = ‵ (fat full_share (bytes erased) ms.0 zero (vptr b o)) ⊛ ‵ (fdies (bytes erased) ms.0) in
         reads_as ! (‵ (fat full_share (slice_ty (bytes erased)) ms.1.0 zero (slice_val (b, o) n)) ∷ ‵ (fdies (slice_ty (bytes erased)) ms.1.0) ∷ ‵ ftrue ∷ pointer ∷ own ∷ held 𝓤 τs bs.1 vs ∷ Γ)

@@ -1,9 +1,8 @@
 -- What a thin function is: its code, and its contract, made of its core's.
 -- It takes a shape, a lent header and the rest of the core's parameters. It copies the header out, calls the core on the copy and on the rest, stores the reply's header back and answers the reply's answer.
 --     thin             the code: the core's name, the MIR types of the rest, and how the rest is handed on, by the locals `more`, the statements `mid` and the operands xs
---     thin_by          the same, with how the reply's header is stored: by the locals `aside` and the statements `back`.        straight, by_copy     it is stored from the reply, as in `thin`;  from a copy of its own, as the compiler has it
 --     Says, Core       what the core ensures of its reply, and its contract.        ts are its parameters after the header, and js says which last values it speaks of
---     Tells, Thin      what the function ensures of its answer, and its contract: at exit the header has a last value and its borrow is handed back, closed, and the rest has what the core says of it
+--     Tells, Thin      what the function ensures of its answer, and its contract: at exit the header has a last value, and the rest has what the core says of it
 --     Claim            what the core says of a reply is what the function tells of the answer and of the header that it leaves
 -- These are definitions. Assumes nothing.
 use Prim.Native.Nat.{ℕ, suc}
@@ -13,12 +12,11 @@ use seplogic.Ra.Ura.{Ura}
 use mir.Syntax.{Callee, Ty, ty_ref, named, mut, deref, field, place, Opd as Operand, copy, rv_opd, Body, seq, assign, return, call, local, value_local, Fn}
 use mir.Val.{Val}
 use base.Logic.{SProp, ent, sep, ex, emp}
-use base.Fml.{Fml, ftrue, fsep, fres, fbor}
+use base.Fml.{ftrue, fsep, fres}
 use types.Logic.{Logic, sem}
-use types.SemTy.{Body as Borrowed}
 use contract.Lifetimes.{Lfts, Shares, toks}
 use denote.RattleType.{RattleType, Denots, Valss, flat, owns}
-use denote.Memory.{pointee, mem}
+use denote.Memory.{pointee}
 use denote.Ref.{MutRef}
 use denote.Signature.{Slot, plain, types_at}
 use denote.Exit.{yes}
@@ -38,9 +36,9 @@ use Rattle.records.proofs.Answer.TheLaws as X'
 use Rattle.records.specs.declared.Reply.{Reply}
 use Rattle.records.specs.contracts.Reply as D
 use Rattle.records.proofs.Reply.TheLaws as D'
-use Rattle.lent.proofs.Locals.{locals, #after}
+use Rattle.lent.proofs.Locals.{locals}
 
--- ---- the code. Local 0 is the answer, 1 the shape, 2 the lent header; then come the rest, the reply, the header's copy, `more` and `aside`
+-- ---- the code. Local 0 is the answer, 1 the shape, 2 the lent header; then come the rest, the reply, the header's copy and `more`
 abbrev pub #reply : List Ty → ℕ
 #reply τs = suc (suc (suc (length τs)))
 
@@ -53,41 +51,24 @@ abbrev pub #more : List Ty → ℕ
 abbrev pub lent_header : Ty
 lent_header = ty_ref (named 0) mut (pointee (T.the_row).written)
 
-abbrev pub #aside : (τs more : List Ty) → ℕ
-#aside τs more = #after (#more τs) more
-
-abbrev pub straight : List Ty → Body → Body
-straight τs = seq (assign (place 2 (deref T'.mir ∷ [])) (rv_opd (copy (place (#reply τs) (field 1 ∷ [])))))
-
-abbrev pub by_copy : (τs more : List Ty) → Body → Body
-by_copy τs more rest =
-    seq (assign (place (#aside τs more) []) (rv_opd (copy (place (#reply τs) (field 1 ∷ [])))))
-    (seq (assign (place 2 (deref T'.mir ∷ [])) (rv_opd (copy (place (#aside τs more) [])))) rest)
-
-abbrev pub thin_by : Callee → (τs more aside : List Ty) → (Body → Body) → List Operand → (Body → Body) → Fn
-thin_by core τs more aside mid xs back = record {
+abbrev pub thin : Callee → (τs more : List Ty) → (Body → Body) → List Operand → Fn
+thin core τs more mid xs = record {
   lifetimes = 2;
   outlives = [];
   ty_params = [];
   givens = 0;
   params = suc (suc (length τs));
-  locals = local X'.mir value_local ∷ local S'.mir value_local ∷ local lent_header value_local ∷ locals τs (local D'.mir value_local ∷ local T'.mir value_local ∷ locals more (locals aside []));
+  locals = local X'.mir value_local ∷ local S'.mir value_local ∷ local lent_header value_local ∷ locals τs (local D'.mir value_local ∷ local T'.mir value_local ∷ locals more []);
   body = seq (assign (place (#copy τs) []) (rv_opd (copy (place 2 (deref T'.mir ∷ [])))))
       (mid (seq (call core (copy (place 1 []) ∷ copy (place (#copy τs) []) ∷ xs) (place (#reply τs) []))
-      (back (seq (assign (place 0 []) (rv_opd (copy (place (#reply τs) (field 0 ∷ []))))) return))));
+      (seq (assign (place 2 (deref T'.mir ∷ [])) (rv_opd (copy (place (#reply τs) (field 1 ∷ [])))))
+      (seq (assign (place 0 []) (rv_opd (copy (place (#reply τs) (field 0 ∷ []))))) return))));
 }
-
-abbrev pub thin : Callee → (τs more : List Ty) → (Body → Body) → List Operand → Fn
-thin core τs more mid xs = thin_by core τs more [] mid xs (straight τs)
 
 -- ---- the contracts
 module _ (ts : List (Slot 1)) where
   abbrev pub Rows : Lfts 2 → List RattleType
   Rows κs = S.the_row ∷ MutRef (named 0) κs.0 T.the_row ∷ types_at ts κs.1
-
-  -- the header's borrow
-  abbrev pub borrow : (κs : Lfts 2) → Denots (Rows κs) → Fml
-  borrow κs a = fbor κs.0 (Borrowed (mem T.the_row) a.1.0.ref_ptr.0 a.1.0.ref_ptr.1 a.1.0.ghost_name)
 
   module _ (js : Kepts ts) where
     abbrev by_value : Ended
@@ -119,7 +100,7 @@ module _ (ts : List (Slot 1)) where
         module _ (tells : Tells) where
           module _ (κs : Lfts 2) (a : Denots (Rows κs)) where
             abbrev pub Leaves : Answer → Unit {0} × (Header × Fins κs.1 ts js a.1.1) → SProp 𝓤
-            Leaves r ws = sep 𝓤 (sem 𝓛 (fsep ftrue (fsep (fsep (fres a.1.0.ghost_name ((T.the_row).coded.code ws.1.0)) (borrow κs a)) (lasts_of κs.1 ts js a.1.1 ws.1.1)))) (tells κs a r ws)
+            Leaves r ws = sep 𝓤 (sem 𝓛 (fsep ftrue (fsep (fres a.1.0.ghost_name ((T.the_row).coded.code ws.1.0)) (lasts_of κs.1 ts js a.1.1 ws.1.1)))) (tells κs a r ws)
 
             abbrev pub Answers : Shares 2 → Val → Answer → SProp 𝓤
             Answers qs v r = sep 𝓤 (sep 𝓤 (toks 𝓛 2 κs qs) (sem 𝓛 ((X.the_row).own_val r (v ∷ [])))) (ex 𝓤 (Leaves r))

@@ -2,7 +2,6 @@
 pub mod Locals
 pub mod Values
 pub mod Form
-pub mod Back
 pub mod Walk
 pub mod Buffer
 pub mod Thin

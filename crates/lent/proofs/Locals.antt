@@ -2,7 +2,7 @@
 --     Blocks, locals, env      a block for each type of a list;  the locals of those types, and then others;  their part of the environment, and then the rest
 --     rooms, held              all that is had of them, as one entry of the context: each is room, or holds a value, and may be freed
 --     allocs_all, passes_all, forgets_all, frees_all       the entry is made;  the arguments are stored;  what is held is forgotten;  the locals are freed
---     found, next, past, after     a place is found where the environment from its local on is known;  from the local after it on;  from the local after a list on;  the same, where the list begins at any local
+--     found, next, past        a place is found where the environment from its local on is known;  from the local after it on;  from the local after a list on
 --     copies, reads_all        the operands that copy the locals, from local k on, read what is held.        reads_as, reads_at     so they do where the entry stands elsewhere in the context
 -- Assumes nothing.
 use mathlib.Core.Path.{◌≡◌, refl, sym, ap, ◌∙◌, subst}
@@ -38,11 +38,6 @@ abbrev pub copies : ℕ → List Ty → List Operand
 copies k [] = []
 copies k (τ ∷ τs) = copy (place k []) ∷ copies (suc k) τs
 
--- the number of the local after those from local k on
-abbrev pub #after : ℕ → List Ty → ℕ
-#after k [] = k
-#after k (τ ∷ τs) = #after (suc k) τs
-
 -- ---- the environment from local k on
 get_from : {X : Type 0} (l : List X) (k : ℕ) (d : X) → get_or l k d ≡ get_or (from_on k l) zero d
 get_from l zero d = refl
@@ -60,10 +55,6 @@ next E k at = from_next E k ∙ ap (from_on 1) at
 pub past : (τs : List Ty) (bs : Blocks τs) (E : List (Ty × ℕ)) → from_on (length τs) (env τs bs E) ≡ E
 past [] bs E = refl
 past (τ ∷ τs) bs E = past τs bs.1 E
-
-pub after : (τs : List Ty) (bs : Blocks τs) (E : List (Ty × ℕ)) (k : ℕ) {E' : List (Ty × ℕ)} → from_on k E ≡ env τs bs E' → from_on (#after k τs) E ≡ E'
-after [] bs E k at = at
-after (τ ∷ τs) bs E k at = after τs bs.1 E (suc k) (next E k at)
 
 module _ {M : Type 1} (𝓤 : Ura M) where
   abbrev pub rooms : (τs : List Ty) → Blocks τs → Item 𝓤
