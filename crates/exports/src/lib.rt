@@ -1,6 +1,6 @@
-// What Rust and C call; include/arena.h says the same for C. A shape and an answer cross as records of numbers, a slice as a
-// pointer and a length, and the header as six u32 in place: the sentinel's next half and size half, allocated, minimum,
-// discarded, and one that is left alone. Those are the 24 bytes of the record that rarena keeps.
+// What Rust and C call, by the crate exports_c; include/arena.h says the same for C. A shape and an answer cross as records of
+// numbers, a slice as a pointer and a length, and the header as six u32 in place: the sentinel's next half and size half,
+// allocated, minimum, discarded, and one that is left alone. Those are the 24 bytes of the record that rarena keeps.
 // Every call takes any shape, any header, any bytes and any numbers. Its contract is one equation that gives the answer, the six
 // numbers and every byte afterwards, also where it refuses. A shape whose policy code is none of 0, 1, 2, or whose `unify` or
 // `read_only` is neither 0 nor 1, is damaged: no head is sound over it.
