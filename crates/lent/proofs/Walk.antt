@@ -93,17 +93,17 @@ module _ (ts : List (Slot 1)) (js : Kepts ts) {M : Type 1} {𝓤 : Ura M} (𝓛 
   abbrev said : Reply → Fins κs.1 ts js a.1.1 → SProp 𝓤
   said = Said ts js 𝓤 says κs a
 
-  abbrev Answer-of : Val → Answer → SProp 𝓤
-  Answer-of = Answers ts js 𝓤 𝓛 tells κs a qs
+  abbrev AnswerOf : Val → Answer → SProp 𝓤
+  AnswerOf = Answers ts js 𝓤 𝓛 tells κs a qs
 
   ends : (r : Reply) (ws : Fins κs.1 ts js a.1.1) → Is X.the_row r.answer (answer_val r.answer ∷ [])
-      → ent 𝓤 (sep 𝓤 (A.obs x.ghost_name ((T.the_row).coded.code r.header)) (sep 𝓤 (A.lft κs.0 qs.0) (sep 𝓤 toks' (sep 𝓤 (sem 𝓛 (lasts ws)) (said r ws))))) (H.⇛ (ex 𝓤 (Answer-of (answer_val r.answer))))
+      → ent 𝓤 (sep 𝓤 (A.obs x.ghost_name ((T.the_row).coded.code r.header)) (sep 𝓤 (A.lft κs.0 qs.0) (sep 𝓤 toks' (sep 𝓤 (sem 𝓛 (lasts ws)) (said r ws))))) (H.⇛ (ex 𝓤 (AnswerOf (answer_val r.answer))))
   ends r ws is =
       qed 𝓛 (‵ (fobs x.ghost_name ((T.the_row).coded.code r.header)) ∷ ‵ (flft κs.0 qs.0) ∷ raw toks' ∷ ‵ (lasts ws) ∷ raw (said r ws) ∷ []) ∵
       use1 𝓛 (‵ (fres x.ghost_name ((T.the_row).coded.code r.header))) (𝓛.names.obs-res x.ghost_name ((T.the_row).coded.code r.header)) $ move ! (0 ∷ 3 ∷ []) $ fjoin ! $ nothing ! $ fjoin ! $
       move ! (3 ∷ []) $ use1 𝓛 (raw (tells κs a r.answer (tt, (r.header, ws)))) (claim κs a r ws) $ move ! (1 ∷ 0 ∷ []) $ join ! $ move ! (1 ∷ 2 ∷ []) $ join ! $
       owned ! X.the_row (Is X.the_row) (EL.makes X.the_type X'.the_plain 𝓛) r.answer _ is $ move ! (1 ∷ 0 ∷ []) $ join ! $
-      updating ! $ at_once ! $ show ! (Answer-of (answer_val r.answer)) r.answer $ frame ! $ show ! (Leaves ts js 𝓤 𝓛 tells κs a r.answer) (tt, (r.header, ws)) $ done !
+      updating ! $ at_once ! $ show ! (AnswerOf (answer_val r.answer)) r.answer $ frame ! $ show ! (Leaves ts js 𝓤 𝓛 tells κs a r.answer) (tt, (r.header, ws)) $ done !
 
   module _ (vss : Valss (types_at ts κs.1)) (C : Calls 𝓤 H) (Λ : Loops 𝓤 H) (fm : FmC 𝓤 H 𝓛.laws C) (core : Callee) (known : Triple 𝓤 (C core) (Core ts js 𝓤 𝓛 says)) (s-is : Is S.the_row s (shape_vals s))
       {τs more : List Ty} {mid : Body → Body} {xs : List Operand} (hands : Hands 𝓛 τs more (flat (types_at ts κs.1) vss) mid xs) where
@@ -126,7 +126,7 @@ module _ (ts : List (Slot 1)) (js : Kepts ts) {M : Type 1} {𝓤 : Ura M} (𝓛 
     given = ((κs.1, qs.1, tt, (s, (h, a.1.1)), (shape_vals s, (header_vals h, vss))), tt)
 
     pub walk : ent 𝓤 (sep 𝓤 (toks 𝓛 2 κs qs) (sem 𝓛 (owns (Rows ts κs) a (shape_vals s, (mut_vals x, vss)))))
-        (WpFn 𝓤 H C Λ (thin core τs more mid xs) (only (shape_vals s) ∷ vptr b o ∷ vs) (λ v. H.⇛ (ex 𝓤 (Answer-of v))))
+        (WpFn 𝓤 H C Λ (thin core τs more mid xs) (only (shape_vals s) ∷ vptr b o ∷ vs) (λ v. H.⇛ (ex 𝓤 (AnswerOf v))))
     walk =
         qed 𝓛 ((‵ (flft κs.0 qs.0) ⊛ raw toks') ∷ ‵ (owns (Rows ts κs) a (shape_vals s, (mut_vals x, vss))) ∷ []) ∵
         split ! $ move ! (2 ∷ []) $ fsplit ! $ move ! (1 ∷ []) $ fsplit ! $ fsplit3 ! $ drop ! $
