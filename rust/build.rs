@@ -10,7 +10,7 @@ fn main() {
     let repository = home.parent().expect("the repository");
     let (usual, command) = match env::var("CARGO_CFG_TARGET_ARCH").as_deref() {
         Ok("x86_64") => ("target/staticlib", "tools/library"),
-        _ => ("target/native", "tools/native"),
+        _ => ("target/native", "tools/native, on x86-64"),
     };
     let folder = repository.join(env::var_os("ARENA_LIB_DIR").unwrap_or(usual.into()));
     let library = folder.join("libexports.a");

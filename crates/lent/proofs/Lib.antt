@@ -1,4 +1,4 @@
--- The walk of a thin function over a lent header, stated once: each of the three is a case of `Thin`.
+-- The walk of a thin function over a lent header, stated once, for code of the form `thin`. The three functions are proved without it.
 pub mod Locals
 pub mod Values
 pub mod Form

@@ -1,5 +1,5 @@
 -- A thin function's theorem, from its core's theorem: the walk, over the machine's tables and with the parameters' machine values written out.
--- A function's own proof names the function and its core (this, core, routine, calls), what the two say (says, tells) and that the one gives the other (claim), the core's theorem (met), how the rest's machine values are told (ls),
+-- What a function's own proof by it names: the function and its core (this, core, routine, calls), what the two say (says, tells) and that the one gives the other (claim), the core's theorem (met), how the rest's machine values are told (ls),
 -- how the rest is handed on (hands), and that the function's code is `thin` (closed).
 -- Assumes nothing.
 use mathlib.Core.Path.{◌≡◌}

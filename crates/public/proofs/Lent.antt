@@ -1,5 +1,5 @@
--- The three calls over a lent header meet the contract that is their row. The walk of their code is in `lent`: what each ensures is the row by
--- computing. Assumes nothing.
+-- The three calls over a lent header meet the contract that is their row. Each is proved in `lent`: what it ensures is the row by computing.
+-- Assumes nothing.
 use seplogic.Ra.Ura.{Ura}
 use prog.Model.{Model}
 use prog.Wired.{Wired, Code}
