@@ -12,12 +12,14 @@ use Rattle.records.specs.Answer.{leaves, refuses, given_back}
 use Rattle.records.specs.Rule.{segment_of}
 use Rattle.records.specs.Change.{with_top, with_first, losing}
 use Rattle.records.specs.declared.Order.{Order}
-use Rattle.records.specs.declared.Policy.TheVariants.{None, Ordered}
+use Rattle.records.specs.declared.Policy.TheVariants.{Ordered}
+use Rattle.records.specs.declared.Policy.TheVariants as Policies
 use Rattle.records.specs.declared.Shape.{Shape}
 use Rattle.records.specs.declared.Header.{Header}
-use Rattle.records.specs.declared.Segment.TheVariants.{At, Refused}
+use Rattle.records.specs.declared.Segment.{Segment}
+use Rattle.std.specs.Prelude.{Some, None}
 use Rattle.records.proofs.Rules.{cut_of}
-use Rattle.freelist.specs.Segs.{passed}
+use Rattle.freelist.specs.Segs.{passed, end_of}
 use Rattle.freelist.specs.Place.{meets}
 use Rattle.freelist.specs.Link.{Inserted}
 use Rattle.freelist.specs.Sound.{first_of, sound, free}
@@ -60,25 +62,25 @@ module _ (s : Shape) (h : Header) (l : List ℕ) (offset size : ℕ) where
             gives_below e = simp (writable, good, le-ltb _ _ above, le-ltb _ _ below, apart, ne_eqb _ _ e)
 
   -- below the top, by the policy and the segment rule
-  pub below_none : s.policy ≡ None → (next : Header) → next ≡ losing h size → leaves (given_back true) next l ≡ below_top s.policy s h l offset size
+  pub below_none : s.policy ≡ Policies.None → (next : Header) → next ≡ losing h size → leaves (given_back true) next l ≡ below_top s.policy s h l offset size
   unfolding below_top
   below_none policy next e = simp (policy, e)
 
-  pub below_refused : (o : Order) → s.policy ≡ Ordered o → segment_of h.minimum_segment_size offset size ≡ Refused
+  pub below_refused : (o : Order) → s.policy ≡ Ordered o → segment_of h.minimum_segment_size offset size ≡ None
       → (next : Header) → next ≡ losing h size → leaves (given_back false) next l ≡ below_top s.policy s h l offset size
   unfolding below_top put_in
   below_refused o policy rule next e = simp (policy, rule, e)
 
-  module _ (p n : ℕ) (rule : segment_of h.minimum_segment_size offset size ≡ At p n) where
+  module _ (q : Segment) (rule : segment_of h.minimum_segment_size offset size ≡ Some q) where
     -- the node lies in the buffer
-    pub node_inside : sound s h l ≡ true → offset + size ≤ h.allocated → (p + 8 + n ≤ length l) × (length l < end_mark)
+    pub node_inside : sound s h l ≡ true → offset + size ≤ h.allocated → (end_of q ≤ length l) × (length l < end_mark)
     node_inside good below =
-        let e = (cut_of _ _ _ _ _ rule).ends in
+        let e = (cut_of _ _ _ _ rule).ends in
         let k = sound_head s h l good in
         (omega arith, omega arith)
 
     pub below_inserted : (o : Order) → s.policy ≡ Ordered o → (first count : ℕ) → first ≡ first_of h → Held l first count (free s h l)
-        → (l' : List ℕ) (to : ℕ) → Inserted l (passed (word_at l) count first) first o (record { offset = p; size = n }) l' to
+        → (l' : List ℕ) (to : ℕ) → Inserted l (passed (word_at l) count first) first o q l' to
         → (linked next : Header) → linked ≡ with_first h to → next ≡ losing linked 8 → leaves (given_back true) next l' ≡ below_top s.policy s h l offset size
     unfolding below_top put_in
     below_inserted o policy first count starts k l' to i linked next e f =

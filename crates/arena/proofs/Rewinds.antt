@@ -5,18 +5,17 @@ use mathlib.Core.Path.{◌≡◌}
 use mathlib.Core.Bool.{true, false}
 use mathlib.Core.List.{List, []}
 use lib.ListN.{length}
-use Rattle.words.specs.Word.{word_at, end_mark}
+use Rattle.words.specs.Word.{end_mark}
 use Rattle.records.specs.Answer.{leaves, refuses, sum, done}
 use Rattle.records.specs.Head.{head_sound}
 use Rattle.records.specs.Change.{with_top, with_first, losing}
 use Rattle.records.specs.declared.Shape.{Shape}
 use Rattle.records.specs.declared.Header.{Header}
 use Rattle.records.specs.declared.Position.{Position}
-use Rattle.freelist.specs.Segs.{passed, sizes}
+use Rattle.freelist.specs.Segs.{sizes}
 use Rattle.freelist.specs.Place.{any_above}
-use Rattle.freelist.specs.Sound.{sound}
+use Rattle.freelist.specs.Sound.{sound, free}
 use Rattle.arena.specs.Rewind.{discarding, rewound, rewinding, setting}
-use Rattle.arena.proofs.Lists.{Counted}
 
 module _ (s : Shape) (h : Header) (l : List ℕ) where
   pub discards_read_only : s.read_only ≡ true → refuses 1 [] h l ≡ discarding s h l
@@ -28,10 +27,10 @@ module _ (s : Shape) (h : Header) (l : List ℕ) where
     unfolding discarding
     discards_damaged e = simp (writable, e)
 
-    pub discards_sum : (first count : ℕ) → Counted s h l first count → (n : ℕ) → n ≡ sizes (passed (word_at l) count first)
-        → (emptied next : Header) → emptied ≡ with_first h end_mark → next ≡ losing emptied n → leaves (sum n) next l ≡ discarding s h l
+    pub discards_sum : sound s h l ≡ true → (n : ℕ) → n ≡ sizes (free s h l) → (emptied next : Header)
+        → emptied ≡ with_first h end_mark → next ≡ losing emptied n → leaves (sum n) next l ≡ discarding s h l
     unfolding discarding
-    discards_sum first count k n is emptied next e f = simp (writable, k.good, f, e, is, k.held.are)
+    discards_sum good n is emptied next e f = simp (writable, good, f, e, is)
 
 module _ (s : Shape) (h : Header) (l : List ℕ) (p : Position) where
   pub rewinds_read_only : s.read_only ≡ true → refuses 1 [] h l ≡ rewinding s h l p
@@ -43,14 +42,14 @@ module _ (s : Shape) (h : Header) (l : List ℕ) (p : Position) where
     unfolding rewinding
     rewinds_damaged e = simp (writable, e)
 
-    module _ (first count : ℕ) (k : Counted s h l first count) (top : ℕ) (is : top ≡ rewound s h p) where
-      pub rewinds_cuts : any_above top (passed (word_at l) count first) ≡ true → refuses 8 [] h l ≡ rewinding s h l p
+    module _ (good : sound s h l ≡ true) (top : ℕ) (is : top ≡ rewound s h p) where
+      pub rewinds_cuts : any_above top (free s h l) ≡ true → refuses 8 [] h l ≡ rewinding s h l p
       unfolding rewinding
-      rewinds_cuts e = simp (writable, k.good, ← is, ← k.held.are, e)
+      rewinds_cuts e = simp (writable, good, ← is, e)
 
-      pub rewinds_done : any_above top (passed (word_at l) count first) ≡ false → (next : Header) → next ≡ with_top h top → leaves done next l ≡ rewinding s h l p
+      pub rewinds_done : any_above top (free s h l) ≡ false → (next : Header) → next ≡ with_top h top → leaves done next l ≡ rewinding s h l p
       unfolding rewinding
-      rewinds_done e next f = simp (writable, k.good, f, ← is, ← k.held.are, e)
+      rewinds_done e next f = simp (writable, good, f, ← is, e)
 
 module _ (s : Shape) (h : Header) (l : List ℕ) (next : Header) where
   pub sets_read_only : s.read_only ≡ true → refuses 1 [] h l ≡ setting s h l next

@@ -1,5 +1,5 @@
 -- Giving back. Document 01, 'Giving back, discarding, rewinding'.
-use Rattle.std.specs.Prelude.{ℕ, ◌+◌, true, false, ◌||◌, not, List, [], ◌∷◌, ltb, eqb}
+use Rattle.std.specs.Prelude.{ℕ, ◌+◌, true, false, ◌||◌, not, List, [], ◌∷◌, ltb, eqb, Option, Some, None as Refused}
 use Rattle.words.specs.Word.{next_half}
 use Rattle.words.specs.Pick.{pick}
 use Rattle.records.specs.Answer.{Outcome, leaves, refuses, given_back}
@@ -11,18 +11,16 @@ use Rattle.records.specs.declared.Policy.TheVariants.{None, Ordered}
 use Rattle.records.specs.declared.Shape.{Shape}
 use Rattle.records.specs.declared.Header.{Header}
 use Rattle.records.specs.declared.Segment.{Segment}
-use Rattle.records.specs.declared.Segment.TheVariants.{At, Refused}
-use Rattle.freelist.specs.Segs.{Seg, leads}
+use Rattle.freelist.specs.Segs.{leads}
 use Rattle.freelist.specs.Place.{place, meets}
 use Rattle.freelist.specs.Link.{insert_bytes, insert_head}
 use Rattle.freelist.specs.Sound.{sound, free}
 
 -- 01: rule refused: discarded grows by size, answer false; else insert, discarded grows by 8 and not by the padding, true.
 -- Insert before the first node whose size is >= the new (pessimistic) or <= the new (optimistic)
-unfoldable pub put_in : Header → List ℕ → List Seg → Order → ℕ → Segment → Outcome
+unfoldable pub put_in : Header → List ℕ → List Segment → Order → ℕ → Option Segment → Outcome
 put_in h l segs o size Refused = leaves (given_back false) (losing h size) l
-put_in h l segs o size (At p n) =
-    let q : Seg = record { offset = p; size = n } in
+put_in h l segs o size (Some q) =
     let k = place (leads o q) segs in
     leaves (given_back true) (losing (with_first h (insert_head (next_half h.sentinel) segs k q)) 8) (insert_bytes l segs k q)
 

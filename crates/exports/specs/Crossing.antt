@@ -1,42 +1,42 @@
 -- What crosses the boundary to Rust and C: numbers, a header as six numbers, and bytes. The calls behind it are document 01's.
-use Rattle.std.specs.Prelude.{ℕ, ◌≡◌, Bool, true, false, ◌&&◌, List, leb, eqb, get_or, set}
+use Rattle.std.specs.Prelude.{ℕ, ◌≡◌, Bool, true, false, ◌&&◌, List, leb, eqb, get_or, Result, Ok, Err}
 use Rattle.words.specs.Pick.{pick}
 use Rattle.words.specs.Word.{node_word, size_half, next_half}
 use Rattle.records.specs.Answer.{Outcome, Said, said, granted, nothing, given_back, sum, done, refused, Began, ready, unready}
-use Rattle.records.specs.Setup.{policy_of, setting_up}
-use Rattle.records.specs.declared.Order.TheVariants.{Optimistic, Pessimistic}
+use Rattle.records.specs.Setup.{policy_of, code_of, setting_up}
 use Rattle.records.specs.declared.Policy.{Policy}
-use Rattle.records.specs.declared.Policy.TheVariants.{None, Ordered}
-use Rattle.records.specs.declared.Named.{Named}
-use Rattle.records.specs.declared.Named.TheVariants.{Known, Unknown}
+use Rattle.records.specs.declared.Policy.TheVariants.{None}
+use Rattle.records.specs.declared.UnknownFreelist.{UnknownFreelist}
 use Rattle.records.specs.declared.Settings.{Settings}
 use Rattle.records.specs.declared.Shape.{Shape}
 use Rattle.records.specs.declared.Header.{Header}
 use Rattle.records.specs.declared.Reply.{Reply}
 use Rattle.exports.specs.declared.CShape.{CShape}
+use Rattle.exports.specs.declared.CHeader.{CHeader}
 use Rattle.exports.specs.declared.CAnswer.{CAnswer}
 use Rattle.exports.specs.declared.CBegun.{CBegun}
 
 -- the header's six numbers: the sentinel's next and size halves, allocated, minimum, discarded, and one that no call reads or writes
-abbrev pub header_of : List ℕ → Header
+abbrev pub header_of : CHeader → Header
 header_of n =
     record {
-      sentinel = node_word (get_or n 1 0) (get_or n 0 0);
-      allocated = get_or n 2 0;
-      minimum_segment_size = get_or n 3 0;
-      discarded = get_or n 4 0;
+      sentinel = node_word n.sentinel_size n.sentinel_next;
+      allocated = n.allocated;
+      minimum_segment_size = n.minimum_segment_size;
+      discarded = n.discarded;
     }
 
 -- these six numbers with a header put in
-abbrev pub stored : List ℕ → Header → List ℕ
+abbrev pub stored : CHeader → Header → CHeader
 stored n h =
-    set (set (set (set (set n 0 (next_half h.sentinel)) 1 (size_half h.sentinel)) 2 h.allocated) 3 h.minimum_segment_size) 4 h.discarded
-
--- the policy's code, the inverse of policy_of
-abbrev pub code_of : Policy → ℕ
-code_of None = 0
-code_of (Ordered Optimistic) = 1
-code_of (Ordered Pessimistic) = 2
+    record {
+      sentinel_next = next_half h.sentinel;
+      sentinel_size = size_half h.sentinel;
+      allocated = h.allocated;
+      minimum_segment_size = h.minimum_segment_size;
+      discarded = h.discarded;
+      unused = n.unused;
+    }
 
 -- a truth crosses as a byte, 1 for yes and 0 for no; any other byte is none
 abbrev pub truth : Bool → ℕ
@@ -74,13 +74,13 @@ shape_with c start f =
     }
 
 -- what a shape names: the policy by its code, and none where `unify` or `read_only` is neither 0 nor 1
-unfoldable pub named_by : CShape → Named
-named_by c = pick (is_truth c.unify && is_truth c.read_only) (policy_of c.policy) Unknown
+unfoldable pub named_by : CShape → Result Policy UnknownFreelist
+named_by c = pick (is_truth c.unify && is_truth c.read_only) (policy_of c.policy) (Err (record {}))
 
 -- a shape as it comes in. One that names no policy is damaged: it gets the data offset 0, over which no head is sound
-abbrev pub shape_by : Named → CShape → Shape
-shape_by (Known f) c = shape_with c c.data_offset f
-shape_by Unknown c = shape_with c 0 None
+abbrev pub shape_by : Result Policy UnknownFreelist → CShape → Shape
+shape_by (Ok f) c = shape_with c c.data_offset f
+shape_by (Err e) c = shape_with c 0 None
 
 unfoldable pub shape_in : CShape → Shape
 shape_in c = shape_by (named_by c) c
@@ -99,24 +99,24 @@ answer_of done = numbers_of 104 0 0 0 0
 answer_of (refused code carried) = numbers_of code (get_or carried 0 0) (get_or carried 1 0) 0 0
 
 -- what is sent of a reply: the answer's numbers, and the header's
-pub record Sent (n : List ℕ) (r : Reply) (a : CAnswer) (m : List ℕ) : Type 0 where
+pub record Sent (n : CHeader) (r : Reply) (a : CAnswer) (m : CHeader) : Type 0 where
   pub answers : a ≡ answer_of (said r.answer)
   pub stores : m ≡ stored n r.header
 
 -- all that a call leaves on the other side
 pub record Crossed : Type 0 where
   pub answer : CAnswer
-  pub header : List ℕ
+  pub header : CHeader
   pub bytes : List ℕ
 
-abbrev pub crossed : CAnswer → List ℕ → List ℕ → Crossed
+abbrev pub crossed : CAnswer → CHeader → List ℕ → Crossed
 crossed a n l = record { answer = a; header = n; bytes = l }
 
-abbrev pub crossed_by : List ℕ → Outcome → Crossed
+abbrev pub crossed_by : CHeader → Outcome → Crossed
 crossed_by n o = crossed (answer_of o.says) (stored n o.header) o.bytes
 
 -- a call on the arena that came over
-unfoldable pub crossing : CShape → List ℕ → List ℕ → (Shape → Header → List ℕ → Outcome) → Crossed
+unfoldable pub crossing : CShape → CHeader → List ℕ → (Shape → Header → List ℕ → Outcome) → Crossed
 crossing c n l call = crossed_by n (call (shape_in c) (header_of n) l)
 
 -- what setup is asked for
@@ -127,9 +127,9 @@ settings_of reserved unify policy least read_only =
 -- all that setup leaves on the other side
 pub record Opened : Type 0 where
   pub begun : CBegun
-  pub header : List ℕ
+  pub header : CHeader
 
-abbrev pub opened : CBegun → List ℕ → Opened
+abbrev pub opened : CBegun → CHeader → Opened
 opened b n = record { begun = b; header = n }
 
 abbrev pub begun_of : ℕ → CShape → CBegun
@@ -139,17 +139,17 @@ abbrev pub no_shape : CShape
 no_shape = record { cap = 0; reserved = 0; data_offset = 0; unify = 0; read_only = 0; policy = 0 }
 
 -- 104 with the shape and a fresh header, or a refusal with neither
-abbrev pub opening_by : Began → List ℕ → Opened
+abbrev pub opening_by : Began → CHeader → Opened
 opening_by (ready s h) n = opened (begun_of (answer_of done).code (shape_out s)) (stored n h)
 opening_by (unready code) n = opened (begun_of code no_shape) n
 
 -- a setup whose `unify` or `read_only` is neither 0 nor 1 is refused 3. 01: setup 2, 3
-abbrev pub unopened : Named → CBegun
-unopened Unknown = begun_of 2 no_shape
-unopened (Known f) = begun_of 3 no_shape
+abbrev pub unopened : Result Policy UnknownFreelist → CBegun
+unopened (Err e) = begun_of 2 no_shape
+unopened (Ok f) = begun_of 3 no_shape
 
 -- setup over a buffer of cap bytes
-unfoldable pub opening : ℕ → ℕ → ℕ → ℕ → ℕ → ℕ → List ℕ → Opened
+unfoldable pub opening : ℕ → ℕ → ℕ → ℕ → ℕ → ℕ → CHeader → Opened
 opening reserved unify policy least read_only cap n =
     pick (is_truth unify && is_truth read_only) (opening_by (setting_up (settings_of reserved unify policy least read_only) cap) n)
     (opened (unopened (policy_of policy)) n)

@@ -12,12 +12,12 @@ ghost use Rattle.arena.specs.Give.{giving_back};
 ghost use Rattle.arena.specs.Rewind.{discarding, rewinding, setting_minimum, adding_discarded};
 ghost use Rattle.exports.specs.Crossing.{header_of, shape_in, crossed, crossing, opened, opening};
 
-use exports::{CAnswer, CBegun, CShape};
+use exports::{CAnswer, CBegun, CHeader, CShape};
 
 // A fresh arena over a buffer of any contents, of which no byte is written. A refusal leaves the six numbers as they are.
 #[unsafe(no_mangle)]
 pub extern "C" fn arena_setup(
-    header: &mut [u32; 6],
+    header: &mut CHeader,
     buf: &[u8],
     reserved: u32,
     unify: u8,
@@ -43,7 +43,7 @@ pub extern "C" fn arena_setup(
 #[unsafe(no_mangle)]
 pub extern "C" fn arena_alloc_bytes(
     shape: CShape,
-    header: &mut [u32; 6],
+    header: &mut CHeader,
     buf: &mut [u8],
     size: u32,
 ) -> CAnswer
@@ -57,7 +57,7 @@ pub extern "C" fn arena_alloc_bytes(
 #[unsafe(no_mangle)]
 pub extern "C" fn arena_alloc(
     shape: CShape,
-    header: &mut [u32; 6],
+    header: &mut CHeader,
     buf: &mut [u8],
     size: u32,
     align: u32,
@@ -72,7 +72,7 @@ pub extern "C" fn arena_alloc(
 #[unsafe(no_mangle)]
 pub extern "C" fn arena_alloc_aligned_bytes(
     shape: CShape,
-    header: &mut [u32; 6],
+    header: &mut CHeader,
     buf: &mut [u8],
     size: u32,
     align: u32,
@@ -88,7 +88,7 @@ pub extern "C" fn arena_alloc_aligned_bytes(
 #[unsafe(no_mangle)]
 pub extern "C" fn arena_dealloc(
     shape: CShape,
-    header: &mut [u32; 6],
+    header: &mut CHeader,
     buf: &mut [u8],
     offset: u32,
     size: u32,
@@ -101,11 +101,7 @@ pub extern "C" fn arena_dealloc(
 
 // The free list is emptied, and the sum of its data sizes is counted as discarded.
 #[unsafe(no_mangle)]
-pub extern "C" fn arena_discard_freelist(
-    shape: CShape,
-    header: &mut [u32; 6],
-    buf: &[u8],
-) -> CAnswer
+pub extern "C" fn arena_discard_freelist(shape: CShape, header: &mut CHeader, buf: &[u8]) -> CAnswer
     ensures { crossed result header.new buf.now
         ≡ crossing shape header.old buf.now (λ s h l. discarding s h l) }
 {
@@ -116,7 +112,7 @@ pub extern "C" fn arena_discard_freelist(
 #[unsafe(no_mangle)]
 pub extern "C" fn arena_rewind_start(
     shape: CShape,
-    header: &mut [u32; 6],
+    header: &mut CHeader,
     buf: &[u8],
     by: u32,
 ) -> CAnswer
@@ -129,7 +125,7 @@ pub extern "C" fn arena_rewind_start(
 #[unsafe(no_mangle)]
 pub extern "C" fn arena_rewind_current(
     shape: CShape,
-    header: &mut [u32; 6],
+    header: &mut CHeader,
     buf: &[u8],
     by: i64,
 ) -> CAnswer
@@ -142,7 +138,7 @@ pub extern "C" fn arena_rewind_current(
 #[unsafe(no_mangle)]
 pub extern "C" fn arena_rewind_end(
     shape: CShape,
-    header: &mut [u32; 6],
+    header: &mut CHeader,
     buf: &[u8],
     by: u32,
 ) -> CAnswer
@@ -156,7 +152,7 @@ pub extern "C" fn arena_rewind_end(
 #[unsafe(no_mangle)]
 pub extern "C" fn arena_set_minimum_segment_size(
     shape: CShape,
-    header: &mut [u32; 6],
+    header: &mut CHeader,
     buf: &[u8],
     size: u32,
 ) -> CAnswer
@@ -169,7 +165,7 @@ pub extern "C" fn arena_set_minimum_segment_size(
 #[unsafe(no_mangle)]
 pub extern "C" fn arena_increase_discarded(
     shape: CShape,
-    header: &mut [u32; 6],
+    header: &mut CHeader,
     buf: &[u8],
     size: u32,
 ) -> CAnswer
@@ -181,7 +177,7 @@ pub extern "C" fn arena_increase_discarded(
 
 // Whether the arena is sound.
 #[unsafe(no_mangle)]
-pub extern "C" fn arena_sound(shape: CShape, header: &[u32; 6], buf: &[u8]) -> bool
+pub extern "C" fn arena_sound(shape: CShape, header: &CHeader, buf: &[u8]) -> bool
     ensures { result ≡ sound (shape_in shape) (header_of header.now) buf.now }
 {
     exports::arena_sound(shape, header, buf)
@@ -189,7 +185,7 @@ pub extern "C" fn arena_sound(shape: CShape, header: &[u32; 6], buf: &[u8]) -> b
 
 // The room above the top, 0 where the top lies above the capacity. The policy plays no part in it.
 #[unsafe(no_mangle)]
-pub extern "C" fn arena_remaining(shape: CShape, header: &[u32; 6]) -> u32
+pub extern "C" fn arena_remaining(shape: CShape, header: &CHeader) -> u32
     ensures { result ≡ shape.cap - (header_of header.now).allocated }
 {
     exports::arena_remaining(shape, header)

@@ -2,6 +2,7 @@
 -- What a caller needs of the free segments is said of `sound` and `free` for every policy at once: only the laws of `Frees` go by cases.
 -- Assumes nothing.
 use mathlib.Core.Path.{◌≡◌, refl, sym, subst}
+use Rattle.std.specs.List.{AllByRecursion as Each}
 use mathlib.Core.Logic.{◌↔◌}
 use mathlib.Core.Bool.{true, ◌&&◌}
 use mathlib.Core.List.{List, []}
@@ -20,7 +21,8 @@ use Rattle.records.specs.declared.Shape.{Shape}
 use Rattle.records.specs.declared.Header.{Header}
 use Rattle.records.proofs.Facts.{both, head_facts, facts_head}
 use Rattle.records.proofs.Rules.{data_past}
-use Rattle.freelist.specs.Segs.{Seg, Run, All, Pairwise, Apart, InRange, EndsBy, Listed, sizes}
+use Rattle.records.specs.declared.Segment.{Segment}
+use Rattle.freelist.specs.Segs.{Run, Pairwise, Apart, InRange, EndsBy, Listed, sizes}
 use Rattle.freelist.specs.Sound.{first_of, list_sound, sound, free_from, free, Disjoint, InOrder, Sound}
 use Rattle.freelist.proofs.Listing.{all_map, pairs_map}
 use Rattle.freelist.proofs.Meets.{apart_bytes, bytes_apart}
@@ -28,7 +30,7 @@ use Rattle.freelist.proofs.Totals.{few, sizes_within}
 use Rattle.freelist.proofs.Checks.{checked_listed, listed_checked, listed_run}
 
 -- by a policy, the list from head has exactly these segments
-abbrev pub Frees : Policy → List ℕ → ℕ → ℕ → ℕ → List Seg → Type 0
+abbrev pub Frees : Policy → List ℕ → ℕ → ℕ → ℕ → List Segment → Type 0
 Frees None l head start top segs = (head ≡ end_mark) × (segs ≡ [])
 Frees (Ordered o) l head start top segs = Listed l head start top o segs
 
@@ -37,7 +39,7 @@ module _ (l : List ℕ) (head start top : ℕ) where
   list_frees None a b c d e = (eqb-true _ _ e, refl)
   list_frees (Ordered o) a b c d e = checked_listed l head start top o a b c d e
 
-  module _ (segs : List Seg) where
+  module _ (segs : List Segment) where
     frees_list : (f : Policy) → Frees f l head start top segs → (list_sound f start top l head ≡ true) × (free_from f start top l head ≡ segs)
     frees_list None k = (eq-eqb _ _ k.0, sym k.1)
     frees_list (Ordered o) k = (listed_checked l head start top o segs k, listed_run l head start top o segs k)
@@ -46,7 +48,7 @@ module _ (l : List ℕ) (head start top : ℕ) where
     frees_run None k = rw k.1 k.0
     frees_run (Ordered o) k = k.run
 
-    pub frees_ranged : (f : Policy) → Frees f l head start top segs → All (InRange start top) segs
+    pub frees_ranged : (f : Policy) → Frees f l head start top segs → Each (InRange start top) segs
     frees_ranged None k = rw k.1 tt
     frees_ranged (Ordered o) k = k.good.ranged
 
@@ -58,7 +60,7 @@ module _ (l : List ℕ) (head start top : ℕ) where
     frees_ordered None k = k.1
     frees_ordered (Ordered o) k = k.good.sorted
 
-    pub make_frees : (f : Policy) → length l ≤ limit → 1 ≤ start → start ≤ top → top ≤ length l → Run (word_at l) head segs end_mark → All (InRange start top) segs → Pairwise Apart segs → InOrder f segs → Frees f l head start top segs
+    pub make_frees : (f : Policy) → length l ≤ limit → 1 ≤ start → start ≤ top → top ≤ length l → Run (word_at l) head segs end_mark → Each (InRange start top) segs → Pairwise Apart segs → InOrder f segs → Frees f l head start top segs
     make_frees None a b c d r g p i = (rw i at r, i)
     make_frees (Ordered o) a b c d r g p i =
         record { limited = a; starts = b; ordered = c; inside = d; run = r; good = record { ranged = g; apart = p; sorted = i } }
@@ -68,7 +70,7 @@ module _ (s : Shape) (h : Header) (l : List ℕ) where
   head_numbers k =
       (omega (arith, k.whole, k.within), rw k.start (data_past s.reserved s.unify), k.above, omega (arith, k.whole, k.below))
 
-  pub frees_sound : Head s h (length l) → size_half h.sentinel ≡ end_mark → (segs : List Seg) → Frees s.policy l (first_of h) s.data_offset h.allocated segs
+  pub frees_sound : Head s h (length l) → size_half h.sentinel ≡ end_mark → (segs : List Segment) → Frees s.policy l (first_of h) s.data_offset h.allocated segs
       → (sound s h l ≡ true) × (free s h l ≡ segs)
   unfolding sound free
   frees_sound k m segs f =
@@ -103,16 +105,16 @@ module _ (s : Shape) (h : Header) (l : List ℕ) where
     pub sound_run : Run (word_at l) (first_of h) (free s h l) end_mark
     sound_run = frees_run l (first_of h) s.data_offset h.allocated (free s h l) s.policy sound_frees
 
-    pub sound_ranged : All (InRange s.data_offset h.allocated) (free s h l)
+    pub sound_ranged : Each (InRange s.data_offset h.allocated) (free s h l)
     sound_ranged = frees_ranged l (first_of h) s.data_offset h.allocated (free s h l) s.policy sound_frees
 
     pub sound_apart : Pairwise Apart (free s h l)
     sound_apart = frees_apart l (first_of h) s.data_offset h.allocated (free s h l) s.policy sound_frees
 
-    pub sound_below : All (EndsBy h.allocated) (free s h l)
+    pub sound_below : Each (EndsBy h.allocated) (free s h l)
     sound_below = all_map (InRange s.data_offset h.allocated) (EndsBy h.allocated) (λ t r. r.below) (free s h l) sound_ranged
 
-    pub sound_ends : All (EndsBy (length l)) (free s h l)
+    pub sound_ends : Each (EndsBy (length l)) (free s h l)
     sound_ends =
         let n = head_numbers sound_head in
         all_map (EndsBy h.allocated) (EndsBy (length l)) (λ t k. omega (arith, n.3)) (free s h l) sound_below

@@ -3,6 +3,7 @@
 -- The walk by `may_come`, without the test of the bytes, keeps a sound list whole too, and all that it keeps is in range and in order.
 -- That the check's bound of length / 16 nodes loses none is the counting law `few`. Assumes nothing.
 use mathlib.Core.Path.{◌≡◌, refl, ap, ◌∙◌, subst}
+use Rattle.std.specs.List.{AllByRecursion as Each}
 use mathlib.Core.Bool.{Bool, true, false, ◌&&◌, not}
 use mathlib.Core.List.{List, [], ◌∷◌, ◌++◌, append_assoc, append-nil}
 use Prim.Native.Nat.{ℕ, zero, suc, ◌/◌, ◌%◌, ◌≤◌}
@@ -16,7 +17,8 @@ use Rattle.records.specs.Setup.{limit}
 use Rattle.records.specs.declared.Order.{Order}
 use Rattle.records.specs.declared.Order.TheVariants.{Optimistic, Pessimistic}
 use Rattle.records.proofs.Facts.{both, fails}
-use Rattle.freelist.specs.Segs.{Seg, Run, All, Pairwise, Apart, InRange, EndsBy, Leads, Good, Listed, seg_at, next_at, end_of, followed, passed}
+use Rattle.records.specs.declared.Segment.{Segment}
+use Rattle.freelist.specs.Segs.{Run, Pairwise, Apart, InRange, EndsBy, Leads, Good, Listed, seg_at, next_at, end_of, followed, passed}
 use Rattle.freelist.specs.Check.{kept, in_range, follows, may_follow, good_run, soundb}
 use Rattle.freelist.specs.Split.{may_come, ranged_run}
 use Rattle.freelist.proofs.Listing.{all_map, all_append, all_split, pairs_snoc, pairs_at}
@@ -25,22 +27,22 @@ use Rattle.freelist.proofs.Runs.{run_followed, run_passed}
 use Rattle.freelist.proofs.Totals.{few}
 
 -- each of these passed the test, told what came before
-abbrev Steps : (List Seg → Seg → Bool) → List Seg → List Seg → Type 0
+abbrev Steps : (List Segment → Segment → Bool) → List Segment → List Segment → Type 0
 Steps ok seen [] = Unit {0}
 Steps ok seen (s ∷ ss) = (ok seen s ≡ true) × Steps ok (seen ++ s ∷ []) ss
 
-module _ (w : ℕ → ℕ) (ok : List Seg → Seg → Bool) where
+module _ (w : ℕ → ℕ) (ok : List Segment → Segment → Bool) where
   -- what `kept` keeps is a run whose nodes pass the test
-  abbrev Kept : List Seg → ℕ → List Seg → Type 0
+  abbrev Kept : List Segment → ℕ → List Segment → Type 0
   Kept seen p ss = Run w p ss (followed w (length ss) p) × Steps ok seen ss
 
-  keep : (x y : Bool) (p : ℕ) (seen rest : List Seg) → eqb p end_mark ≡ x → ok seen (seg_at w p) ≡ y → Kept (seen ++ seg_at w p ∷ []) (next_at w p) rest
+  keep : (x y : Bool) (p : ℕ) (seen rest : List Segment) → eqb p end_mark ≡ x → ok seen (seg_at w p) ≡ y → Kept (seen ++ seg_at w p ∷ []) (next_at w p) rest
       → Kept seen p (pick (not x && y) (seg_at w p ∷ rest) [])
   keep true y p seen rest e f h = (refl, tt)
   keep false true p seen rest e f h = ((eqb-false p end_mark e, refl, h.0), (f, h.1))
   keep false false p seen rest e f h = (refl, tt)
 
-  kept_is : (n : ℕ) (seen : List Seg) (p : ℕ) → Kept seen p (kept n w ok seen p)
+  kept_is : (n : ℕ) (seen : List Segment) (p : ℕ) → Kept seen p (kept n w ok seen p)
   unfolding kept
   kept_is zero seen p = (refl, tt)
   kept_is (suc n) seen p =
@@ -48,7 +50,7 @@ module _ (w : ℕ → ℕ) (ok : List Seg → Seg → Bool) where
       (kept_is n (seen ++ seg_at w p ∷ []) (next_at w p))
 
   -- a run to the end mark whose nodes pass the test is kept whole
-  kept_whole : (n : ℕ) (seen : List Seg) (p : ℕ) (ss : List Seg) → length ss ≤ n → Run w p ss end_mark → Steps ok seen ss → kept n w ok seen p ≡ ss
+  kept_whole : (n : ℕ) (seen : List Segment) (p : ℕ) (ss : List Segment) → length ss ≤ n → Run w p ss end_mark → Steps ok seen ss → kept n w ok seen p ≡ ss
   unfolding kept
   kept_whole zero seen p [] l r k = refl
   kept_whole zero seen p (s ∷ ss) l r k = absurd (omega arith)
@@ -59,7 +61,7 @@ module _ (w : ℕ → ℕ) (ok : List Seg → Seg → Bool) where
       rw (ne_eqb p end_mark r.0, f, kept_whole n (seen ++ seg_at w p ∷ []) (next_at w p) ss (omega arith) r.2 g, r.1)
 
 -- the tests of one node
-module _ (start top : ℕ) (s : Seg) where
+module _ (start top : ℕ) (s : Segment) where
   pub in_range_lem : in_range start top s ≡ true → InRange start top s
   unfolding in_range
   in_range_lem e =
@@ -76,25 +78,25 @@ module _ (start top : ℕ) (s : Seg) where
   pub range_no : (InRange start top s → ⊥) → in_range start top s ≡ false
   range_no h = fails (in_range start top s) (λ e. h (in_range_lem e))
 
-pub leads_trans : (o : Order) (s t u : Seg) → Leads o s t → Leads o t u → Leads o s u
+pub leads_trans : (o : Order) (s t u : Segment) → Leads o s t → Leads o t u → Leads o s u
 leads_trans Optimistic s t u h k = omega (arith, leb-true, le-leb)
 leads_trans Pessimistic s t u h k = omega (arith, leb-true, le-leb)
 
 -- in a sorted list the test of the last node is that of each
-follows_all : (o : Order) (ss : List Seg) (t : Seg) → Pairwise (Leads o) ss → follows o ss t ≡ true → All (λ s. Leads o s t) ss
+follows_all : (o : Order) (ss : List Segment) (t : Segment) → Pairwise (Leads o) ss → follows o ss t ≡ true → Each (λ s. Leads o s t) ss
 follows_all o [] t h e = tt
 follows_all o (s ∷ []) t h e = (e, tt)
 follows_all o (s ∷ u ∷ us) t h e =
     let r = follows_all o (u ∷ us) t h.1 e in
     (leads_trans o s u t h.0.0 r.0, r)
 
-all_follows : (o : Order) (ss : List Seg) (t : Seg) → All (λ s. Leads o s t) ss → follows o ss t ≡ true
+all_follows : (o : Order) (ss : List Segment) (t : Segment) → Each (λ s. Leads o s t) ss → follows o ss t ≡ true
 all_follows o [] t h = refl
 all_follows o (s ∷ []) t h = h.0
 all_follows o (s ∷ u ∷ us) t h = all_follows o (u ∷ us) t h.1
 
 -- the answers of `may_come`, in the order of its tests
-module _ (start top : ℕ) (o : Order) (seen : List Seg) (t : Seg) where
+module _ (start top : ℕ) (o : Order) (seen : List Segment) (t : Segment) where
   pub come_no_range : in_range start top t ≡ false → may_come start top o seen t ≡ false
   unfolding may_come
   come_no_range a = rw a refl
@@ -111,7 +113,7 @@ module _ (start top : ℕ) (o : Order) where
   good_nil : Good start top o []
   good_nil = record { ranged = tt; apart = tt; sorted = tt }
 
-  good_snoc : (ss : List Seg) (t : Seg) → Good start top o ss → may_follow start top o ss t ≡ true → Good start top o (ss ++ t ∷ [])
+  good_snoc : (ss : List Segment) (t : Segment) → Good start top o ss → may_follow start top o ss t ≡ true → Good start top o (ss ++ t ∷ [])
   unfolding may_follow
   good_snoc ss t g e =
       let a = both _ _ e in
@@ -122,7 +124,7 @@ module _ (start top : ℕ) (o : Order) where
         sorted = pairs_snoc (Leads o) ss t g.sorted (follows_all o ss t g.sorted b.1);
       }
 
-  good_test : (ss : List Seg) (t : Seg) (us : List Seg) → Good start top o (ss ++ t ∷ us) → may_follow start top o ss t ≡ true
+  good_test : (ss : List Segment) (t : Segment) (us : List Segment) → Good start top o (ss ++ t ∷ us) → may_follow start top o ss t ≡ true
   unfolding may_follow
   good_test ss t us g =
       rw (
@@ -133,27 +135,27 @@ module _ (start top : ℕ) (o : Order) where
       refl
 
   -- a list is good exactly where each of its nodes passes the test
-  steps_good : (seen ss : List Seg) → Good start top o seen → Steps (may_follow start top o) seen ss → Good start top o (seen ++ ss)
+  steps_good : (seen ss : List Segment) → Good start top o seen → Steps (may_follow start top o) seen ss → Good start top o (seen ++ ss)
   steps_good seen [] g h = rw append-nil g
   steps_good seen (s ∷ ss) g h = rw append_assoc at (steps_good (seen ++ s ∷ []) ss (good_snoc seen s g h.0) h.1)
 
-  good_steps : (seen ss : List Seg) → Good start top o (seen ++ ss) → Steps (may_follow start top o) seen ss
+  good_steps : (seen ss : List Segment) → Good start top o (seen ++ ss) → Steps (may_follow start top o) seen ss
   good_steps seen [] g = tt
   good_steps seen (s ∷ ss) g =
       (good_test seen s ss g, good_steps (seen ++ s ∷ []) ss (rw append_assoc g))
 
   -- what `may_follow` lets pass comes in range and in order
-  follow_comes : (seen ss : List Seg) → Steps (may_follow start top o) seen ss → Steps (may_come start top o) seen ss
+  follow_comes : (seen ss : List Segment) → Steps (may_follow start top o) seen ss → Steps (may_come start top o) seen ss
   unfolding may_follow may_come
   follow_comes seen [] h = tt
   follow_comes seen (s ∷ ss) h = ((both _ _ h.0).0, follow_comes (seen ++ s ∷ []) ss h.1)
 
-  comes_ranged : (seen ss : List Seg) → Steps (may_come start top o) seen ss → All (InRange start top) ss
+  comes_ranged : (seen ss : List Segment) → Steps (may_come start top o) seen ss → Each (InRange start top) ss
   unfolding may_come
   comes_ranged seen [] h = tt
   comes_ranged seen (s ∷ ss) h = (in_range_lem start top s (both _ _ h.0).0, comes_ranged (seen ++ s ∷ []) ss h.1)
 
-  comes_sorted : (seen ss : List Seg) → Pairwise (Leads o) seen → Steps (may_come start top o) seen ss → Pairwise (Leads o) (seen ++ ss)
+  comes_sorted : (seen ss : List Segment) → Pairwise (Leads o) seen → Steps (may_come start top o) seen ss → Pairwise (Leads o) (seen ++ ss)
   unfolding may_come
   comes_sorted seen [] g h = rw append-nil g
   comes_sorted seen (s ∷ ss) g h =
@@ -174,7 +176,7 @@ module _ (l : List ℕ) (head start top : ℕ) (o : Order) where
   unfolding ranged_run
   ranged_is_run = (kept_is (word_at l) (may_come start top o) (length l / 16) [] head).0
 
-  pub ranged_ranged : All (InRange start top) (ranged_run l head start top o)
+  pub ranged_ranged : Each (InRange start top) (ranged_run l head start top o)
   unfolding ranged_run
   ranged_ranged =
       comes_ranged start top o [] (kept (length l / 16) (word_at l) (may_come start top o) [] head)
@@ -199,7 +201,7 @@ module _ (l : List ℕ) (head start top : ℕ) (o : Order) where
         good = good_good;
       }
 
-  module _ (segs : List Seg) (s : Listed l head start top o segs) where
+  module _ (segs : List Segment) (s : Listed l head start top o segs) where
     -- 01: at most cap / 16 nodes
     pub listed_few : length segs ≤ length l / 16
     listed_few = omega (arith, few start top segs s.starts s.good.ranged s.good.apart, s.inside)
@@ -221,7 +223,7 @@ module _ (l : List ℕ) (head start top : ℕ) (o : Order) where
     pub listed_checked : soundb l head start top o ≡ true
     unfolding soundb
     listed_checked =
-        eq-eqb _ _ (ap (λ (ss : List Seg). followed (word_at l) (length ss) head) listed_run ∙ run_followed (word_at l) head end_mark segs s.run (length segs) refl)
+        eq-eqb _ _ (ap (λ (ss : List Segment). followed (word_at l) (length ss) head) listed_run ∙ run_followed (word_at l) head end_mark segs s.run (length segs) refl)
 
     -- a list by the number of its nodes
     pub listed_passed : (n : ℕ) → n ≡ length segs → passed (word_at l) n head ≡ segs
@@ -230,5 +232,5 @@ module _ (l : List ℕ) (head start top : ℕ) (o : Order) where
     pub listed_followed : (n : ℕ) → n ≡ length segs → followed (word_at l) n head ≡ end_mark
     listed_followed = run_followed (word_at l) head end_mark segs s.run
 
-    pub listed_ends : All (EndsBy (length l)) segs
+    pub listed_ends : Each (EndsBy (length l)) segs
     listed_ends = all_map (InRange start top) (EndsBy (length l)) (λ t r. omega (arith, s.inside)) segs s.good.ranged

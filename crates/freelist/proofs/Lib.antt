@@ -4,10 +4,12 @@ pub mod Places
 pub mod Totals
 pub mod Runs
 pub mod Words
+pub mod Iterating
 pub mod Meets
 pub mod Checks
 pub mod Walks
 pub mod Aparts
+pub mod Turns
 pub mod Bits
 pub mod Claims
 pub mod Seeks

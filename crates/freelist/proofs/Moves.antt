@@ -1,6 +1,7 @@
 -- What keeps an arena sound, said of `sound` and `free`: writes outside the nodes' eight bytes, another top, a node put in or taken out, an empty list.
 -- The header afterwards is any that has the sentinel and the top that are named. Assumes nothing.
 use mathlib.Core.Path.{◌≡◌, refl, sym, ap, ◌∙◌, subst}
+use Rattle.std.specs.List.{AllByRecursion as Each}
 use mathlib.Core.Bool.{true}
 use mathlib.Core.List.{List, []}
 use Prim.Native.Nat.{ℕ, ◌≤◌, ◌<◌}
@@ -14,7 +15,8 @@ use Rattle.records.specs.declared.Policy.{Policy}
 use Rattle.records.specs.declared.Policy.TheVariants.{None, Ordered}
 use Rattle.records.specs.declared.Shape.{Shape}
 use Rattle.records.specs.declared.Header.{Header}
-use Rattle.freelist.specs.Segs.{Seg, All, Apart, InRange, EndsBy, leads}
+use Rattle.records.specs.declared.Segment.{Segment}
+use Rattle.freelist.specs.Segs.{Apart, InRange, EndsBy, leads}
 use Rattle.freelist.specs.Place.{place, insert_at, remove_at}
 use Rattle.freelist.specs.Link.{insert_bytes, insert_head, remove_bytes, remove_head}
 use Rattle.freelist.specs.Sound.{first_of, sound, free, InOrder}
@@ -26,11 +28,11 @@ use Rattle.freelist.proofs.Sounds.{listed_kept, listed_insert, listed_remove}
 use Rattle.freelist.proofs.Arenas.{Frees, make_frees, frees_run, frees_ranged, frees_sound, head_numbers, sound_head, sound_marked, sound_frees, sound_listed, sound_ends, sound_below}
 
 -- an arena with this header and these bytes is sound, and these are its free segments
-abbrev pub SoundWith : Shape → Header → List ℕ → List Seg → Type 0
+abbrev pub SoundWith : Shape → Header → List ℕ → List Segment → Type 0
 SoundWith s h l segs = (sound s h l ≡ true) × (free s h l ≡ segs)
 
-module _ (l : List ℕ) (head start top : ℕ) (segs : List Seg) where
-  frees_kept : (f : Policy) → Frees f l head start top segs → (m : List ℕ) (top' : ℕ) → length m ≡ length l → All (Same l m) segs → start ≤ top' → top' ≤ length l → All (EndsBy top') segs → Frees f m head start top' segs
+module _ (l : List ℕ) (head start top : ℕ) (segs : List Segment) where
+  frees_kept : (f : Policy) → Frees f l head start top segs → (m : List ℕ) (top' : ℕ) → length m ≡ length l → Each (Same l m) segs → start ≤ top' → top' ≤ length l → Each (EndsBy top') segs → Frees f m head start top' segs
   frees_kept None k m top' e g a b h = k
   frees_kept (Ordered o) k m top' e g a b h = listed_kept start top o l head segs k m top' e g a b h
 
@@ -40,7 +42,7 @@ module _ (l : List ℕ) (head start top : ℕ) (segs : List Seg) where
 
 -- a header whose sentinel names x first
 module _ (s : Shape) (h : Header) (l : List ℕ) (x : ℕ) (e : h.sentinel ≡ node_word end_mark x) (k : Head s h (length l)) where
-  frees_sound_with : (segs : List Seg) → Frees s.policy l x s.data_offset h.allocated segs → SoundWith s h l segs
+  frees_sound_with : (segs : List Segment) → Frees s.policy l x s.data_offset h.allocated segs → SoundWith s h l segs
   frees_sound_with segs f =
       let n = head_numbers s h l k in
       let r = frees_run l x s.data_offset h.allocated segs s.policy f in
@@ -68,36 +70,36 @@ module _ (s : Shape) (h : Header) (l : List ℕ) (yes : sound s h l ≡ true) wh
       record { whole = k.whole ∙ sym e; within = k.within; start = k.start; above = a; below = omega (arith, k.whole) }
 
   -- the same sentinel, a top that no free segment passes, and bytes with the same nodes' words
-  sound-kept : (h' : Header) (m : List ℕ) → h'.sentinel ≡ h.sentinel → s.data_offset ≤ h'.allocated → h'.allocated ≤ length l → All (EndsBy h'.allocated) (free s h l)
-      → length m ≡ length l → All (Same l m) (free s h l) → SoundWith s h' m (free s h l)
+  sound-kept : (h' : Header) (m : List ℕ) → h'.sentinel ≡ h.sentinel → s.data_offset ≤ h'.allocated → h'.allocated ≤ length l → Each (EndsBy h'.allocated) (free s h l)
+      → length m ≡ length l → Each (Same l m) (free s h l) → SoundWith s h' m (free s h l)
   sound-kept h' m e a b g n f =
       frees_sound s h' m (head_moved h' m n a b) (rw e (sound_marked s h l yes)) (free s h l)
       (rw e (frees_kept l (first_of h) s.data_offset h.allocated (free s h l) s.policy (sound_frees s h l yes) m h'.allocated n f a b g))
 
   -- another top that no free segment passes, and any counters
-  pub sound_top : (h' : Header) → h'.sentinel ≡ h.sentinel → s.data_offset ≤ h'.allocated → h'.allocated ≤ length l → All (EndsBy h'.allocated) (free s h l) → SoundWith s h' l (free s h l)
+  pub sound_top : (h' : Header) → h'.sentinel ≡ h.sentinel → s.data_offset ≤ h'.allocated → h'.allocated ≤ length l → Each (EndsBy h'.allocated) (free s h l) → SoundWith s h' l (free s h l)
   sound_top h' e a b g = sound-kept h' l e a b g refl (mem_all (Same l l) (free s h l) (λ t _. refl))
 
-  sound_words : (m : List ℕ) → length m ≡ length l → All (Same l m) (free s h l) → SoundWith s h m (free s h l)
+  sound_words : (m : List ℕ) → length m ≡ length l → Each (Same l m) (free s h l) → SoundWith s h m (free s h l)
   sound_words m =
       let n = head_numbers s h l (sound_head s h l yes) in
       sound-kept h m refl n.2 n.3 (sound_below s h l yes)
 
   -- bytes that agree on every node's eight; a range zeroed outside them
-  pub sound_agree : (m : List ℕ) → length m ≡ length l → All (Agree l m) (free s h l) → SoundWith s h m (free s h l)
+  pub sound_agree : (m : List ℕ) → length m ≡ length l → Each (Agree l m) (free s h l) → SoundWith s h m (free s h l)
   sound_agree m e f = sound_words m e (agree_words l m e (free s h l) (sound_ends s h l yes) f)
 
-  pub sound-zeroed : (a b : ℕ) → a ≤ b → b ≤ length l → All (Outside a b) (free s h l) → SoundWith s h (zeroed l a b) (free s h l)
+  pub sound-zeroed : (a b : ℕ) → a ≤ b → b ≤ length l → Each (Outside a b) (free s h l) → SoundWith s h (zeroed l a b) (free s h l)
   sound-zeroed a b i k f = sound_words (zeroed l a b) (zeroed-length l a b i k) (zeroed_words l a b i k (free s h l) f)
 
   module _ (h' : Header) (m : List ℕ) (top : h'.allocated ≡ h.allocated) where
-    moved : (x : ℕ) → h'.sentinel ≡ node_word end_mark x → length m ≡ length l → (segs : List Seg) → Frees s.policy m x s.data_offset h.allocated segs → SoundWith s h' m segs
+    moved : (x : ℕ) → h'.sentinel ≡ node_word end_mark x → length m ≡ length l → (segs : List Segment) → Frees s.policy m x s.data_offset h.allocated segs → SoundWith s h' m segs
     moved x e n segs f =
         let k = head_numbers s h l (sound_head s h l yes) in
         frees_sound_with s h' m x e (head_moved h' m n (rw top k.2) (rw top k.3)) segs (rw top f)
 
     -- q put in where the order has it
-    pub sound_insert : (o : Order) → s.policy ≡ Ordered o → (q : Seg) → InRange s.data_offset h.allocated q → All (λ t. Apart t q) (free s h l)
+    pub sound_insert : (o : Order) → s.policy ≡ Ordered o → (q : Segment) → InRange s.data_offset h.allocated q → Each (λ t. Apart t q) (free s h l)
         → h'.sentinel ≡ node_word end_mark (insert_head (first_of h) (free s h l) (place (leads o q) (free s h l)) q)
         → m ≡ insert_bytes l (free s h l) (place (leads o q) (free s h l)) q → SoundWith s h' m (insert_at (place (leads o q) (free s h l)) q (free s h l))
     sound_insert o p q r a e b =

@@ -1,6 +1,7 @@
 -- What keeps a list sound, once over the order: a node put in or taken out, other bytes with the same nodes, another top. What the order promises of the head and of the first that fits.
 -- Assumes nothing.
 use mathlib.Core.Path.{◌≡◌, refl, sym}
+use Rattle.std.specs.List.{AllByRecursion as Each}
 use mathlib.Core.Bool.{Bool, true, false}
 use mathlib.Core.List.{List, ◌∷◌, Memᴰ}
 use Prim.Native.Nat.{ℕ, suc, ◌≤◌, ◌<◌}
@@ -11,7 +12,8 @@ use lib.ListN.{length, take, drop, get_or, take-append-drop}
 use lib.Seq.{split_at}
 use Rattle.words.specs.Word.{word_at, end_mark}
 use Rattle.words.proofs.Ranges.{parted_parts}
-use Rattle.freelist.specs.Segs.{Seg, All, Pairwise, Apart, InRange, EndsBy, Leads, leads, Good, Listed, end_of}
+use Rattle.records.specs.declared.Segment.{Segment}
+use Rattle.freelist.specs.Segs.{Pairwise, Apart, InRange, EndsBy, Leads, leads, Good, Listed, end_of}
 use Rattle.freelist.specs.Place.{place, insert_at, remove_at}
 use Rattle.freelist.specs.Link.{insert_bytes, insert_head, remove_bytes, remove_head}
 use Rattle.records.specs.declared.Order.{Order}
@@ -24,16 +26,16 @@ use Rattle.freelist.proofs.Runs.{run_agree}
 use Rattle.freelist.proofs.Words.{Same}
 use Rattle.freelist.proofs.Links.{insert_run, remove_run, insert_length, remove_length}
 
-leads_total : (o : Order) (s t : Seg) → leads o s t ≡ false → leads o t s ≡ true
+leads_total : (o : Order) (s t : Segment) → leads o s t ≡ false → leads o t s ≡ true
 leads_total Optimistic s t e = omega (arith, leb-false, le-leb)
 leads_total Pessimistic s t e = omega (arith, leb-false, le-leb)
 
-leads_same : (o : Order) (s : Seg) → leads o s s ≡ true
+leads_same : (o : Order) (s : Segment) → leads o s s ≡ true
 leads_same Optimistic s = omega (arith, le-leb)
 leads_same Pessimistic s = omega (arith, le-leb)
 
 module _ (start top : ℕ) (o : Order) where
-  pub good_insert : (q : Seg) (segs : List Seg) → InRange start top q → All (λ s. Apart s q) segs → Good start top o segs → Good start top o (insert_at (place (leads o q) segs) q segs)
+  pub good_insert : (q : Segment) (segs : List Segment) → InRange start top q → Each (λ s. Apart s q) segs → Good start top o segs → Good start top o (insert_at (place (leads o q) segs) q segs)
   good_insert q segs h f g =
       record {
         ranged = all_insert (InRange start top) (place (leads o q) segs) q segs h g.ranged;
@@ -41,7 +43,7 @@ module _ (start top : ℕ) (o : Order) where
         sorted = sorted_insert (leads o) (leads_trans o) q segs (mem_all (λ s. leads o q s ≡ false → leads o s q ≡ true) segs (λ s _. leads_total o q s)) g.sorted;
       }
 
-  pub good_remove : (k : ℕ) (segs : List Seg) → Good start top o segs → Good start top o (remove_at k segs)
+  pub good_remove : (k : ℕ) (segs : List Segment) → Good start top o segs → Good start top o (remove_at k segs)
   good_remove k segs g =
       record {
         ranged = all_remove (InRange start top) k segs g.ranged;
@@ -49,9 +51,9 @@ module _ (start top : ℕ) (o : Order) where
         sorted = pairs_remove (Leads o) k segs g.sorted;
       }
 
-  module _ (l : List ℕ) (head : ℕ) (segs : List Seg) (s : Listed l head start top o segs) where
+  module _ (l : List ℕ) (head : ℕ) (segs : List Segment) (s : Listed l head start top o segs) where
     -- other bytes with the same nodes' words, and another top that no segment passes
-    pub listed_kept : (m : List ℕ) (top' : ℕ) → length m ≡ length l → All (Same l m) segs → start ≤ top' → top' ≤ length l → All (EndsBy top') segs → Listed m head start top' o segs
+    pub listed_kept : (m : List ℕ) (top' : ℕ) → length m ≡ length l → Each (Same l m) segs → start ≤ top' → top' ≤ length l → Each (EndsBy top') segs → Listed m head start top' o segs
     listed_kept m top' e f a b g =
         record {
           limited = rw e s.limited;
@@ -68,7 +70,7 @@ module _ (start top : ℕ) (o : Order) where
         }
 
     -- q put in where the order has it
-    pub listed_insert : (q : Seg) → InRange start top q → All (λ t. Apart t q) segs
+    pub listed_insert : (q : Segment) → InRange start top q → Each (λ t. Apart t q) segs
         → Listed (insert_bytes l segs (place (leads o q) segs) q) (insert_head head segs (place (leads o q) segs) q) start top o (insert_at (place (leads o q) segs) q segs)
     unfolding insert_bytes insert_head
     listed_insert q h f =
@@ -91,7 +93,7 @@ module _ (start top : ℕ) (o : Order) where
     pub listed_remove : (k : ℕ) → k < length segs → Listed (remove_bytes l segs k) (remove_head head segs k) start top o (remove_at k segs)
     unfolding remove_bytes remove_head
     listed_remove k h =
-        let d : Seg = record { offset = 0; size = 0 } in
+        let d : Segment = record { offset = 0; size = 0 } in
         let e = sym (split_at segs k d h) in
         let ends = listed_ends l head start top o segs s in
         let m = remove_length l segs ends k in
@@ -107,25 +109,25 @@ module _ (start top : ℕ) (o : Order) where
         }
 
   -- the first node that passes a test stands, by the order, before every other that passes it
-  pub first_best : (f : Seg → Bool) (segs : List Seg) (t : Seg) (rest : List Seg) → Good start top o segs → drop (place f segs) segs ≡ t ∷ rest → All (λ u. f u ≡ true → Leads o t u) segs
+  pub first_best : (f : Segment → Bool) (segs : List Segment) (t : Segment) (rest : List Segment) → Good start top o segs → drop (place f segs) segs ≡ t ∷ rest → Each (λ u. f u ≡ true → Leads o t u) segs
   first_best f segs t rest g e = first_leads (leads o) (leads_trans o) (leads_same o) f segs t rest g.sorted e
 
 -- so the head of a falling list is a largest segment, and the first with room in a rising list a smallest with room
 module _ (start top : ℕ) where
-  pub head_largest : (t : Seg) (rest : List Seg) → Good start top Optimistic (t ∷ rest) → (u : Seg) → Memᴰ u (t ∷ rest) → u.size ≤ t.size
+  pub head_largest : (t : Segment) (rest : List Segment) → Good start top Optimistic (t ∷ rest) → (u : Segment) → Memᴰ u (t ∷ rest) → u.size ≤ t.size
   head_largest t rest g u m =
       leb-true _ _ (all_mem (λ v. true ≡ true → Leads Optimistic t v) u (t ∷ rest) m (first_best start top Optimistic (λ v. true) (t ∷ rest) t rest g refl) refl)
 
-  pub first_smallest : (n : ℕ) (segs : List Seg) (t : Seg) (rest : List Seg) → Good start top Pessimistic segs → drop (place (λ v. leb n v.size) segs) segs ≡ t ∷ rest
-      → (u : Seg) → Memᴰ u segs → n ≤ u.size → t.size ≤ u.size
+  pub first_smallest : (n : ℕ) (segs : List Segment) (t : Segment) (rest : List Segment) → Good start top Pessimistic segs → drop (place (λ v. leb n v.size) segs) segs ≡ t ∷ rest
+      → (u : Segment) → Memᴰ u segs → n ≤ u.size → t.size ≤ u.size
   first_smallest n segs t rest g e u m h =
       leb-true _ _ (all_mem (λ v. leb n v.size ≡ true → Leads Pessimistic t v) u segs m (first_best start top Pessimistic (λ v. leb n v.size) segs t rest g e) (le-leb _ _ h))
 
 -- a segment inside one that left the list is apart from what is left
-apart_inside : (t q s : Seg) → t.offset ≤ q.offset → end_of q ≤ end_of t → Apart s t → Apart s q
+apart_inside : (t q s : Segment) → t.offset ≤ q.offset → end_of q ≤ end_of t → Apart s t → Apart s q
 apart_inside t q s a b = parted_parts s.offset (end_of s) q.offset (end_of q) (omega arith) (omega arith) a b
 
-pub rest_apart : (k : ℕ) (segs : List Seg) (d q : Seg) → k < length segs → Pairwise Apart segs → (get_or segs k d).offset ≤ q.offset → end_of q ≤ end_of (get_or segs k d) → All (λ s. Apart s q) (remove_at k segs)
+pub rest_apart : (k : ℕ) (segs : List Segment) (d q : Segment) → k < length segs → Pairwise Apart segs → (get_or segs k d).offset ≤ q.offset → end_of q ≤ end_of (get_or segs k d) → Each (λ s. Apart s q) (remove_at k segs)
 rest_apart k segs d q h p a b =
     all_map (λ s. Apart s (get_or segs k d)) (λ s. Apart s q) (λ s. apart_inside (get_or segs k d) q s a b) (remove_at k segs)
     (pairs_without Apart apart_sym k segs d h p)

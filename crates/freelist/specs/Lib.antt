@@ -6,3 +6,4 @@ pub mod Split
 pub mod Marks
 pub mod Sound
 pub mod Link
+pub mod Nodes

@@ -1,14 +1,15 @@
 -- The test for shared bytes by marks: a bit for each cell of eight bytes, 64 of them in a word, a window of words at a time, set where a segment that was
 -- seen has a byte. Nodes are multiples of 8, so two segments share a byte exactly where they share a cell.
 use Rattle.std.specs.Prelude.{◌≡◌, Bool, true, false, List, ℕ, ◌*◌, ◌/◌, ◌%◌, ◌^◌, ◌≤◌, ◌<◌, get_or}
-use Rattle.freelist.specs.Segs.{Seg, end_of}
+use Rattle.records.specs.declared.Segment.{Segment}
+use Rattle.freelist.specs.Segs.{end_of}
 
 -- cell c has a byte of s
-abbrev pub Touches : Seg → ℕ → Type 0
+abbrev pub Touches : Segment → ℕ → Type 0
 Touches s c = (s.offset / 8 ≤ c) × (c * 8 < end_of s)
 
 -- no cell from lo up to hi has a byte of both
-abbrev pub Free : ℕ → ℕ → Seg → Seg → Type 0
+abbrev pub Free : ℕ → ℕ → Segment → Segment → Type 0
 Free lo hi s t = (c : ℕ) → lo ≤ c → c < hi → Touches s c → Touches t c → ⊥
 
 -- the mark at i: 1 where it is set

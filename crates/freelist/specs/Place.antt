@@ -1,32 +1,18 @@
 -- Tests of the segments of a list, and a place in it: document 01's 'first node' that passes a test ('Taking room', 'Giving back, discarding, rewinding'),
 -- and refusals 7 and 8 ('What each call says no with').
-use Rattle.std.specs.Prelude.{◌≡◌, Bool, false, ◌||◌, List, [], ◌∷◌, ◌++◌, ℕ, suc, leb, ltb, take, drop}
+use Rattle.std.specs.Prelude.{◌≡◌, Bool, List, [], ◌∷◌, ◌++◌, ℕ, suc, ltb, take, drop}
+use Rattle.std.specs.List.{list_any as any}
 use Rattle.words.specs.Word.{end_mark}
 use Rattle.words.specs.Pick.{pick}
-use Rattle.freelist.specs.Segs.{Seg, end_of, leads, shares}
-use Rattle.freelist.specs.declared.place.Test.{Test}
-use Rattle.freelist.specs.declared.place.Test.TheVariants.{Place, Room, Meets, Above}
-
--- a test of a segment t
--- 01: insert before the first node whose size is >= the new (pessimistic) or <= the new (optimistic): a new node precedes its equals
--- 01: first node with need <= size
-abbrev pub passes : Test → Seg → Bool
-passes (Place o p s) t = leads o (record { offset = p; size = s }) t
-passes (Room need) t = leb need t.size
-passes (Meets from to) t = shares t.offset (end_of t) from to
-passes (Above top) t = ltb top (end_of t)
-
--- one of the elements passes
-abbrev pub any : {A : Type 0} → (A → Bool) → List A → Bool
-any f [] = false
-any f (x ∷ xs) = f x || any f xs
+use Rattle.records.specs.declared.Segment.{Segment}
+use Rattle.freelist.specs.Segs.{end_of, shares}
 
 -- 01, refusal 7: whose bytes meet a free segment's, for the bytes from `from` up to `to`
-abbrev pub meets : List Seg → ℕ → ℕ → Bool
+abbrev pub meets : List Segment → ℕ → ℕ → Bool
 meets segs from to = any (λ s. shares s.offset (end_of s) from to) segs
 
 -- 01, refusal 8: whose new top lies below the end of a free segment
-abbrev pub any_above : ℕ → List Seg → Bool
+abbrev pub any_above : ℕ → List Segment → Bool
 any_above top segs = any (λ s. ltb top (end_of s)) segs
 
 -- how many elements stand before the first that passes, and all of them where none does
@@ -35,22 +21,22 @@ place f [] = 0
 place f (x ∷ xs) = let rest = suc (place f xs) in pick (f x) 0 rest
 
 -- where a list starts, and where its last node stands: the end mark where it has none
-abbrev pub start_of : List Seg → ℕ
+abbrev pub start_of : List Segment → ℕ
 start_of [] = end_mark
 start_of (s ∷ ss) = s.offset
 
-abbrev pub last_of : List Seg → ℕ
+abbrev pub last_of : List Segment → ℕ
 last_of [] = end_mark
 last_of (s ∷ []) = s.offset
 last_of (s ∷ t ∷ ss) = last_of (t ∷ ss)
 
 -- a place with so many segments before it: the nodes on both sides
-pub record Stands (segs : List Seg) (index prev next : ℕ) : Type 0 where
+pub record Stands (segs : List Segment) (index prev next : ℕ) : Type 0 where
   pub behind : prev ≡ last_of (take index segs)
   pub ahead : next ≡ start_of (drop index segs)
 
 -- the place of the first that passes a test
-pub record Spotted (segs : List Seg) (f : Seg → Bool) (prev next index : ℕ) : Type 0 where
+pub record Spotted (segs : List Segment) (f : Segment → Bool) (prev next index : ℕ) : Type 0 where
   pub at : index ≡ place f segs
   pub stands : Stands segs index prev next
 

@@ -1,13 +1,17 @@
-// Changes of a list: a node put in where the order has it, and one taken out.
+// Changes of a list: a node put in where the order has it, and one taken out. They ask by a clause what `Nodes` knows of a list
+// that is read, since it cannot hold a buffer that is written.
 ghost use Rattle.std.specs.Prelude.{◌≡◌, ◌≢◌, ◌+◌, ◌≤◌, ◌<◌, length};
+ghost use Rattle.std.specs.List.{AllByRecursion as Each};
 ghost use Rattle.words.specs.Word.{word_at, end_mark};
-ghost use Rattle.freelist.specs.Segs.{followed, passed, Run, All, EndsBy};
-ghost use Rattle.freelist.specs.Place.{Stands};
+ghost use Rattle.freelist.specs.Segs.{passed, Run, EndsBy, end_of, leads};
+ghost use Rattle.freelist.specs.Place.{Stands, Spotted};
 ghost use Rattle.freelist.specs.Link.{link_bytes, link_head, Inserted, Removed};
 
-use crate::place::{Spot, Test, find_place};
-use crate::segs::END_MARK;
-use records::Order;
+use crate::nodes::Nodes;
+use crate::place::{Spot, find_place};
+use crate::segs::{END_MARK, may_lead};
+use records::{Order, Segment};
+use words::Node;
 
 // The link after the node at `prev` set to `to`, or the list's first where `prev` is the end mark: the first then.
 fn link(buf: &mut [u8], head: usize, prev: usize, to: usize) -> usize
@@ -20,46 +24,43 @@ fn link(buf: &mut [u8], head: usize, prev: usize, to: usize) -> usize
         return to;
     }
     let node = words::node_at(buf, prev);
-    words::put_word(buf, prev, words::node_word(node.size, to as u32));
+    let linked = Node {
+        size: node.size,
+        next: to as u32,
+    };
+    words::put_word(buf, prev, u64::from(linked));
     head
 }
 
-// A segment put into a list of `count` nodes where the order has it, before its equals: the list's first then.
-pub fn insert(
-    buf: &mut [u8],
-    head: usize,
-    count: usize,
-    order: Order,
-    offset: usize,
-    size: usize,
-) -> usize
-    requires ends { All (EndsBy (length buf.old)) (passed (word_at buf.old) count head) }
-    requires whole { followed (word_at buf.old) count head ≡ end_mark }
-    requires room { (offset + 8 + size ≤ length buf.old) × (length buf.old < 4294967295) }
-    ensures { Inserted
-        buf.old
-        (passed (word_at buf.old) count head)
-        head
-        order
-        (record { offset = offset; size = size })
-        buf.new
-        result }
+// Where the order has a segment in a list of `count` nodes: before the first that it may lead.
+fn place_of(buf: &[u8], head: usize, count: usize, order: Order, segment: Segment) -> Spot
+    requires { Each (EndsBy (length buf.now)) (passed (word_at buf.now) count head) }
+    ensures { Spotted (passed (word_at buf.now) count head) (leads order segment) result.prev result.next result.index }
 {
-    let test = Test::Place {
-        order,
-        offset,
-        size,
+    find_place(
+        Nodes::new(buf, head, count),
+        |t| may_lead(order, segment, t),
+    )
+}
+
+// A segment put into a list of `count` nodes where the order has it, before its equals: the list's first then.
+pub fn insert(buf: &mut [u8], head: usize, count: usize, order: Order, segment: Segment) -> usize
+    requires ends { Each (EndsBy (length buf.old)) (passed (word_at buf.old) count head) }
+    requires room { (end_of segment ≤ length buf.old) × (length buf.old < 4294967295) }
+    ensures { Inserted buf.old (passed (word_at buf.old) count head) head order segment buf.new result }
+{
+    let spot = place_of(buf, head, count, order, segment);
+    let node = Node {
+        size: segment.size as u32,
+        next: spot.next as u32,
     };
-    let spot = find_place(buf, head, count, test);
-    let prev = spot.prev;
-    let next = spot.next;
-    words::put_word(buf, offset, words::node_word(size as u32, next as u32));
-    link(buf, head, prev, offset)
+    words::put_word(buf, segment.offset, u64::from(node));
+    link(buf, head, spot.prev, segment.offset)
 }
 
 // The node at a place taken out of a list of `count` nodes: the list's first then.
 pub fn remove(buf: &mut [u8], head: usize, count: usize, spot: Spot) -> usize
-    requires ends { All (EndsBy (length buf.old)) (passed (word_at buf.old) count head) }
+    requires ends { Each (EndsBy (length buf.old)) (passed (word_at buf.old) count head) }
     requires stands { Stands (passed (word_at buf.old) count head) spot.index spot.prev spot.next }
     requires run { Run (word_at buf.old) head (passed (word_at buf.old) count head) end_mark }
     requires index_in { spot.index < count }

@@ -1,11 +1,13 @@
 // Whether no two segments of a list share a byte, by marks: a bit for each cell of eight bytes, a window of cells at a
 // time. A list with few segments for its room is still tested pair by pair.
 ghost use Rattle.std.specs.Prelude.{◌≡◌, true, ◌+◌, ◌-◌, ◌*◌, ◌^◌, min, ◌≤◌, ◌<◌, length, replicate};
-ghost use Rattle.words.specs.Word.{word_at};
-ghost use Rattle.freelist.specs.Segs.{passed, All, Pairwise, InRange, EndsBy};
+ghost use Rattle.std.specs.List.{AllByRecursion as Each};
+ghost use Rattle.freelist.specs.Segs.{Pairwise, InRange};
+ghost use Rattle.freelist.specs.Nodes.{rest};
 ghost use Rattle.freelist.specs.Split.{apartb};
 ghost use Rattle.freelist.specs.Marks.{Free, Unset, Marked, Tells};
 
+use crate::nodes::Nodes;
 use crate::split::apart_pairs;
 
 // The bytes of a cell, which has one mark, and the marks of a word.
@@ -13,25 +15,24 @@ const CELL: usize = 8;
 
 const WORD: usize = 64;
 
-// The cells of a window and their bytes, and the bytes of the cells of a small one.
-const WINDOW: usize = 65536;
+// The words of marks of a large window and of a small one.
+const LARGE: usize = 1024;
 
-const SPAN: usize = 524288;
+const SMALL: usize = 128;
 
-const SMALL_SPAN: usize = 65536;
+// The cells of a large window and their bytes, and the bytes of the cells of a small one.
+const WINDOW: usize = LARGE * WORD;
+
+const SPAN: usize = WINDOW * CELL;
+
+const SMALL_SPAN: usize = SMALL * WORD * CELL;
 
 // Where the mark of a cell stands among `marks` of them from that of the cell `base` on: the first or past the last for a
 // cell before or after them.
 fn mark_of(base: usize, marks: usize, cell: usize) -> usize
     ensures { result ≡ min (cell - base) marks }
 {
-    if cell < base {
-        return 0;
-    }
-    if marks < cell - base {
-        return marks;
-    }
-    cell - base
+    cell.saturating_sub(base).min(marks)
 }
 
 // The bits of a word from `from` up to `to`.
@@ -40,10 +41,11 @@ fn bits(from: usize, to: usize) -> u64
     ensures { result ≡ 2 ^ to - 2 ^ from }
 {
     let below = (1u64 << from) - 1;
-    (18446744073709551615 >> (64 - to)) - below
+    (u64::MAX >> (64 - to)) - below
 }
 
-// Whether the marks from a up to b are unset: it sets them then, a word at a time.
+// Whether the marks from a up to b are unset: it sets them then, a word at a time. A `for` over the words would need a product and a
+// limit for both ends of each word, and a test for b below a.
 fn claim(marks: &mut [u64], a: usize, b: usize) -> bool
     requires { b ≤ length marks.old * 64 }
     ensures tells { Tells result (Unset marks.old a b) }
@@ -52,10 +54,7 @@ fn claim(marks: &mut [u64], a: usize, b: usize) -> bool
     let mut i = a;
     while i < b {
         let from = i % WORD;
-        let mut to = WORD;
-        if b - i < WORD - from {
-            to = from + (b - i);
-        }
+        let to = (from + (b - i)).min(WORD);
         let word = marks[i / WORD];
         let own = bits(from, to);
         if word & own != 0 {
@@ -67,82 +66,62 @@ fn claim(marks: &mut [u64], a: usize, b: usize) -> bool
     true
 }
 
-// Whether no two of the first `count` nodes from `head` share a cell of those from `base` on that have a mark, all of them
-// unset: each node finds the marks of its cells unset, and sets them.
-fn claim_run(buf: &[u8], head: usize, count: usize, base: usize, marks: &mut [u64]) -> bool
-    requires ends { All (EndsBy (length buf.now)) (passed (word_at buf.now) count head) }
-    requires fresh { (marks.old ≡ replicate (length marks.old) 0) × (length marks.old ≤ 1024) }
-    ensures { Tells result (Pairwise (Free base (base + length marks.old * 64)) (passed (word_at buf.now) count head)) }
+// Whether no two of these nodes share a cell of those from `base` on that have a mark, all of them unset: each node finds
+// the marks of its cells unset, and sets them.
+fn claim_run(nodes: Nodes, base: usize, marks: &mut [u64]) -> bool
+    requires { (marks.old ≡ replicate (length marks.old) 0) × (length marks.old ≤ 1024) }
+    ensures { Tells result (Pairwise (Free base (base + length marks.old * 64)) (rest nodes.entry)) }
 {
     let room = marks.len() * WORD;
-    let mut p = head;
-    let mut left = count;
-    while 0 < left {
-        let node = words::node_at(buf, p);
-        let end = p + words::NODE_SIZE + node.size as usize;
-        let a = mark_of(base, room, p / CELL);
-        let b = mark_of(base, room, (end + 7) / CELL);
+    for node in nodes {
+        let a = mark_of(base, room, node.offset / CELL);
+        let b = mark_of(base, room, node.end().div_ceil(CELL));
         if !claim(marks, a, b) {
             return false;
         }
-        p = node.next as usize;
-        left -= 1;
     }
     true
 }
 
-// Whether no two of the first `count` nodes from `head` share a cell of the first small window.
-fn small_window_apart(buf: &[u8], head: usize, count: usize) -> bool
-    requires { All (EndsBy (length buf.now)) (passed (word_at buf.now) count head) }
-    ensures { Tells result (Pairwise (Free 0 8192) (passed (word_at buf.now) count head)) }
+// Whether these nodes share no cell of the window of N words of marks from the cell `base` on. The marks are an array: nothing is on
+// a heap.
+fn window_apart<const N: usize>(nodes: Nodes, base: usize) -> bool
+    requires { N ≤ 1024 }
+    ensures { Tells result (Pairwise (Free base (base + N * 64)) (rest nodes.entry)) }
 {
-    let mut marks: [u64; 128] = [0; 128];
-    claim_run(buf, head, count, 0, &mut marks)
+    let mut marks = [0; N];
+    claim_run(nodes, base, &mut marks)
 }
 
-// Whether they share no cell of the window from the cell `base` on.
-fn window_apart(buf: &[u8], head: usize, count: usize, base: usize) -> bool
-    requires { All (EndsBy (length buf.now)) (passed (word_at buf.now) count head) }
-    ensures { Tells result (Pairwise (Free base (base + 65536)) (passed (word_at buf.now) count head)) }
+// Whether they share no cell of so many large windows, which follow each other.
+fn windows_apart(nodes: Nodes, windows: usize) -> bool
+    requires { windows < 281474976710656 }
+    ensures { Tells result (Pairwise (Free 0 (windows * 65536)) (rest nodes.entry)) }
 {
-    let mut marks: [u64; 1024] = [0; 1024];
-    claim_run(buf, head, count, base, &mut marks)
-}
-
-// Whether they share no cell of so many windows, which follow each other.
-fn windows_apart(buf: &[u8], head: usize, count: usize, windows: usize) -> bool
-    requires ends { All (EndsBy (length buf.now)) (passed (word_at buf.now) count head) }
-    requires few { windows < 281474976710656 }
-    ensures { Tells result (Pairwise (Free 0 (windows * 65536)) (passed (word_at buf.now) count head)) }
-{
-    let mut base = 0;
-    let mut left = windows;
-    while 0 < left {
-        if !window_apart(buf, head, count, base) {
+    for window in 0..windows {
+        if !window_apart::<LARGE>(nodes, window * WINDOW) {
             return false;
         }
-        base += WINDOW;
-        left -= 1;
     }
     true
 }
 
-// Whether no two of the first `count` nodes from `head` share a byte: the nodes are multiples of 8 and end at or below
-// `top`. Pair by pair where they are few for the room that they lie in, else by marks.
-pub fn apart_run(buf: &[u8], head: usize, count: usize, top: usize) -> bool
-    requires top_in { top ≤ length buf.now }
-    requires ranged { All (InRange 0 top) (passed (word_at buf.now) count head) }
-    ensures { result ≡ apartb (passed (word_at buf.now) count head) }
+// Whether no two of these nodes share a byte: they are multiples of 8 and end at or below `top`. Pair by pair where they are few for the
+// room that they lie in, else by marks.
+pub fn apart_run(nodes: Nodes, top: usize) -> bool
+    requires { Each (InRange 0 top) (rest nodes) }
+    ensures { result ≡ apartb (rest nodes.entry) }
 {
+    let count = nodes.len();
     if count < 8 {
-        return apart_pairs(buf, head, count);
+        return apart_pairs(nodes);
     }
     if top <= SMALL_SPAN {
-        return small_window_apart(buf, head, count);
+        return window_apart::<SMALL>(nodes, 0);
     }
-    let windows = (top + (SPAN - 1)) / SPAN;
+    let windows = top.div_ceil(SPAN);
     if count / 4 < windows + 2 {
-        return apart_pairs(buf, head, count);
+        return apart_pairs(nodes);
     }
-    windows_apart(buf, head, count, windows)
+    windows_apart(nodes, windows)
 }

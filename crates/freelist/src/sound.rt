@@ -3,47 +3,33 @@ ghost use Rattle.std.specs.Prelude.{◌≡◌};
 ghost use Rattle.freelist.specs.Sound.{sound, surveyed};
 
 use crate::marks::apart_run;
-use crate::segs::END_MARK;
+use crate::nodes::Nodes;
 use crate::split::free_run;
 use records::{Header, Shape};
+use words::Node;
 
-// What the soundness check finds: a sound arena with so many free segments, or none.
-#[derive(Clone, Copy)]
-pub enum Finding {
-    Sound(usize),
-    Unsound,
-}
-
-// The soundness check of any header over any bytes, with the number of the free segments.
-pub fn survey(shape: Shape, header: Header, buf: &[u8]) -> Finding
+// The soundness check of any header over any bytes: the number of the free segments of a sound arena.
+pub fn survey(shape: Shape, header: Header, buf: &[u8]) -> Option<usize>
     ensures { result ≡ surveyed shape header buf.now }
 {
     if !records::head_sound(shape, header, buf) {
-        return Finding::Unsound;
+        return None;
     }
-    if words::size_half(header.sentinel) != words::END_MARK {
-        return Finding::Unsound;
+    if Node::from(header.sentinel).size != words::END_MARK {
+        return None;
     }
-    let policy = shape.policy;
-    let head = records::first_of(header) as usize;
+    let head = header.first() as usize;
     let top = header.allocated as usize;
-    let run = free_run(buf, head, shape.data_offset as usize, top, policy);
-    if run.stop != END_MARK {
-        return Finding::Unsound;
+    let count = free_run(buf, head, shape.data_offset as usize, top, shape.policy)?;
+    if !apart_run(Nodes::new(buf, head, count), top) {
+        return None;
     }
-    if !apart_run(buf, head, run.count, top) {
-        return Finding::Unsound;
-    }
-    Finding::Sound(run.count)
+    Some(count)
 }
 
 // Whether the arena is sound.
 pub fn arena_sound(shape: Shape, header: Header, buf: &[u8]) -> bool
     ensures { result ≡ sound shape header buf.now }
 {
-    let finding = survey(shape, header, buf);
-    match finding {
-        Finding::Sound(_) => true,
-        Finding::Unsound => false,
-    }
+    survey(shape, header, buf).is_some()
 }

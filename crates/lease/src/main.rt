@@ -4,40 +4,40 @@
 
 mod show;
 
-use records::{Answer, Begun};
+use records::{Answer, Settings};
+use show::Shown;
 use std::io;
 
-// A caller's write. The part of a block that leaves the buffer is empty, so the length is asked first.
+// A caller's write. The part of a block that leaves the buffer is empty, so the first byte is asked for.
 fn sign(part: &mut [u8]) {
-    if 0 < part.len() {
-        part[0] = 7;
+    if let Some(first) = part.first_mut() {
+        *first = 7;
     }
 }
 
 fn main(rt: HostRuntime) -> io::Result<()> {
     let mut buf = [0u8; 200];
-    let mut settings = records::defaults();
-    settings.reserved = 7;
+    let settings = Settings {
+        reserved: 7,
+        ..Settings::default()
+    };
     let fresh = match records::setup(settings, &buf) {
-        Begun::Ready(fresh) => fresh,
-        Begun::UnknownFreelist => return show::refused(&rt, 2),
-        Begun::BadSetup => return show::refused(&rt, 3),
+        Ok(fresh) => fresh,
+        Err(error) => return println!(rt; "refused {}", error.number()),
     };
     let taken = arena::alloc_bytes(fresh.shape, fresh.header, &mut buf, 40);
-    show::reply(&rt, taken)?;
-    // The reply holds the header for the next call, and the answer: an enum is taken apart in a local, not in a field.
-    let header = taken.header;
-    let answer = taken.answer;
-    let Answer::Granted(lease) = answer else {
+    println!(rt; "{}", Shown(taken.answer))?;
+    // The reply holds the header for the next call, and the answer.
+    let Answer::Granted(lease) = taken.answer else {
         return Ok(());
     };
     sign(records::bytes_mut(&mut buf, lease));
     let offset = lease.memory_offset;
     let size = lease.memory_size;
-    let once = arena::dealloc(fresh.shape, header, &mut buf, offset, size);
-    show::reply(&rt, once)?;
+    let once = arena::dealloc(fresh.shape, taken.header, &mut buf, offset, size);
+    println!(rt; "{}", Shown(once.answer))?;
     let twice = arena::dealloc(fresh.shape, once.header, &mut buf, offset, size);
-    show::reply(&rt, twice)?;
+    println!(rt; "{}", Shown(twice.answer))?;
     let asked = arena::alloc_bytes(fresh.shape, twice.header, &mut buf, 1000);
-    show::reply(&rt, asked)
+    println!(rt; "{}", Shown(asked.answer))
 }

@@ -1,44 +1,42 @@
 // What a call answers, as text: every answer that there is, a refusal by its number in document 01 and with the numbers
-// that it carries. A truth is 1 or 0. A write that fails is the caller's error.
-use records::{Answer, Reply};
-use std::io;
+// that it carries. A truth is 1 or 0.
+use records::{Answer, Block};
+use std::fmt;
 
-fn text(rt: &impl Print, words: &str) -> io::Result<()> {
-    println!(rt; "{words}")
-}
+#[derive(Clone, Copy)]
+pub struct Shown(pub Answer);
 
-fn number(rt: &impl Print, name: &str, n: u32) -> io::Result<()> {
-    println!(rt; "{name}{n}")
-}
-
-fn pair(rt: &impl Print, name: &str, first: u32, second: u32) -> io::Result<()> {
-    println!(rt; "{name}{first}, {second}")
-}
-
-pub fn refused(rt: &impl Print, code: u32) -> io::Result<()> {
-    number(rt, "refused ", code)
-}
-
-pub fn reply(rt: &impl Print, reply: Reply) -> io::Result<()> {
-    let answer = reply.answer;
-    match answer {
-        Answer::Granted(block) => {
-            pair(rt, "memory ", block.memory_offset, block.memory_size)?;
-            pair(rt, "usable ", block.usable_offset, block.usable_size)
+impl fmt::Display for Shown {
+    fn fmt<W: fmt::Write>(&self, f: &mut fmt::Formatter<W>) -> fmt::Result {
+        if let Some(number) = self.0.number() {
+            write!(f, "refused {number}")?;
         }
-        Answer::Nothing => text(rt, "nothing"),
-        Answer::GivenBack(kept) => number(rt, "given back ", kept as u32),
-        Answer::Sum(sum) => number(rt, "sum ", sum),
-        Answer::Done => text(rt, "done"),
-        Answer::ReadOnly => refused(rt, 1),
-        Answer::Damaged => refused(rt, 4),
-        Answer::BadLayout => refused(rt, 5),
-        Answer::OutOfBounds { offset, allocated } => pair(rt, "refused 6: ", offset, allocated),
-        Answer::Overlap => refused(rt, 7),
-        Answer::CutsFreeList => refused(rt, 8),
-        Answer::InsufficientSpace {
-            requested,
-            available,
-        } => pair(rt, "refused 9: ", requested, available),
+        match self.0 {
+            Answer::Granted(
+                Block {
+                    memory_offset,
+                    memory_size,
+                    usable_offset,
+                    usable_size,
+                },
+            ) => {
+                writeln!(f, "memory {memory_offset}, {memory_size}")?;
+                write!(f, "usable {usable_offset}, {usable_size}")
+            }
+            Answer::Nothing => f.write_str("nothing"),
+            Answer::GivenBack(kept) => write!(f, "given back {}", u8::from(kept)),
+            Answer::Sum(sum) => write!(f, "sum {sum}"),
+            Answer::Done => f.write_str("done"),
+            Answer::OutOfBounds {
+                offset: first,
+                allocated: second,
+            }
+            | Answer::InsufficientSpace {
+                requested: first,
+                available: second,
+            } => write!(f, ": {first}, {second}"),
+            // No other refusal carries anything.
+            _ => Ok(()),
+        }
     }
 }

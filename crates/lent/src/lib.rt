@@ -1,5 +1,5 @@
 // The header as one lent record that is changed in place: three thin functions over the by-value calls, with the same
-// answers. A refusal leaves the record as it was.
+// answers, in the form that document 01 names. A refusal leaves the record as it was.
 #![tactic(auto)]
 
 ghost use Rattle.std.specs.Prelude.{◌≡◌};

@@ -1,53 +1,32 @@
--- The exact sum of a top and a signed number, by the move that the number is; and the top that a sum gives.
+-- The exact sum of a top and an i64, by the u64 that holds it; and the top that an exact sum gives.
 -- Assumes nothing.
-use Prim.Native.Nat.{ℕ, suc, ◌+◌, ◌-◌, ◌≤◌, ◌<◌, ◌^◌, max}
-use mathlib.Core.Path.{◌≡◌, refl, ap, ◌∙◌}
-use mathlib.Core.Bool.{false≢true}
+use Prim.Native.Nat.{ℕ, ◌≤◌, ◌<◌, max}
+use mathlib.Core.Path.{◌≡◌, refl}
 use native.Mathlib.Omega.{arith}
-use borrow.Author.Tests.{le-ltb, lt-ltb, le-leb, lt-leb, eq-eqb, ne_eqb}
-use lib.IntN.{ℤ, pos, negsuc, sub_ℕ, ◌+ℤ◌}
+use borrow.Author.Tests.{le-leb, lt-leb, eq-eqb, ne_eqb}
+use lib.IntN.{ℤ, pos, negsuc, ◌+ℤ◌}
+use lib.Signed.{◌<ℤ◌}
 use mir.Syntax.{w64}
-use mir.Val.{SFits}
+use mir.Val.{SFits, to_z, of_z}
+use Rattle.std.proofs.lemmas.Int.{ints}
+use Rattle.std.specs.Int.{FitsUnsigned}
+use Rattle.std.specs.Prelude.{unsigned_abs}
 use Rattle.positions.specs.NewTop.{exact_top}
-use Rattle.positions.specs.Step.{move_of}
-use Rattle.positions.specs.declared.Move.TheVariants.{Up, Down}
 
--- a move up is that by a number from 0 on
-up_is : (d : ℤ) (k : ℕ) → move_of d ≡ Up k → d ≡ pos k
-up_is (pos n) k e = cc
-up_is (negsuc n) k e = absurd (false≢true cc)
+-- the sum with an i64, which a callee reads back from its bits, is the u64 that holds it
+pub sum_is : {top t n : ℕ} {d : ℤ} → SFits w64 d → t ≡ top
+    → FitsUnsigned w64 (pos t +ℤ to_z w64 (of_z w64 d)) × (n ≡ unsigned_abs (pos t +ℤ to_z w64 (of_z w64 d)))
+    → pos top +ℤ d ≡ pos n
+sum_is f e h = omega (arith, ints)
 
--- a move up by an i64 leaves room for a top in a u64
-pub up_small : (d : ℤ) (k : ℕ) → SFits w64 d → move_of d ≡ Up k → k < 2 ^ 63
-up_small d k f e = (rw (up_is d k e) at f).sfits
-
--- a move down takes its distance from the top
-down_is : (top : ℕ) (d : ℤ) (k : ℕ) → move_of d ≡ Down k → pos top +ℤ d ≡ sub_ℕ top k
-down_is top (pos n) k e = absurd (false≢true cc)
-down_is top (negsuc n) k e =
-    let same : n + 1 ≡ k = cc in
-    let next : suc n ≡ k = omega arith in
-    ap (sub_ℕ top) next
-
-module _ (top : ℕ) (d : ℤ) (k : ℕ) where
-  -- the exact sum after a move up
-  pub sum_up : move_of d ≡ Up k → pos top +ℤ d ≡ pos (top + k)
-  sum_up e = rw (up_is d k e)
-
-  -- after a move down past 0
-  pub sum_under : move_of d ≡ Down k → top < k → pos top +ℤ d ≡ negsuc (k - suc top)
-  sum_under e h = down_is top d k e ∙ simp (lt-ltb _ _ h)
-
-  -- after any other move down
-  pub sum_down : move_of d ≡ Down k → k ≤ top → pos top +ℤ d ≡ pos (top - k)
-  sum_down e h = down_is top d k e ∙ simp (le-ltb _ _ h)
+module _ (start cap top : ℕ) where
+  -- an exact sum below 0 gives the data offset
+  pub reach_under : (z : ℤ) → z <ℤ pos 0 → exact_top start cap top z ≡ start
+  unfolding exact_top
+  reach_under (pos n) h = absurd (omega (arith, ints))
+  reach_under (negsuc n) h = refl
 
 module _ (start cap top n : ℕ) where
-  -- an exact sum below 0 gives the data offset
-  pub reach_under : exact_top start cap top (negsuc n) ≡ start
-  unfolding exact_top
-  reach_under = refl
-
   -- one of at least the capacity gives the capacity
   pub reach_cap : cap ≤ n → exact_top start cap top (pos n) ≡ cap
   unfolding exact_top

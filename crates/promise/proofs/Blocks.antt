@@ -1,13 +1,15 @@
 -- A held block's bytes lie in one range, its hull: from its memory offset up to the end of its memory or of its usable part, whichever is later.
 -- That two hulls, or a hull and a segment, are apart is said by their ends, so that it is arithmetic; here it is turned into bytes. Assumes nothing.
 use Prim.Native.Nat.{ℕ, ◌+◌, ◌≤◌, ◌<◌, max}
+use Rattle.std.specs.List.{AllByRecursion as Each}
 use mathlib.Core.Logic.{inl, inr}
 use mathlib.Core.List.{List}
 use native.Mathlib.Omega.{arith}
 use Rattle.words.proofs.Ranges.{Parted, parted_parts, parted_none}
 use Rattle.words.proofs.Stills.{Still}
 use Rattle.records.specs.declared.Block.{Block}
-use Rattle.freelist.specs.Segs.{Seg, Covers, All, end_of}
+use Rattle.records.specs.declared.Segment.{Segment}
+use Rattle.freelist.specs.Segs.{Covers, end_of}
 use Rattle.freelist.proofs.Listing.{all_map}
 use Rattle.freelist.proofs.Meets.{OffSeg}
 use Rattle.promise.specs.Runs.{Holds}
@@ -21,7 +23,7 @@ abbrev pub OffBlock : ℕ → ℕ → Block → Type 0
 OffBlock a e b = Parted a e b.memory_offset (hull_end b)
 
 -- a block and a segment, and two blocks, whose bytes are apart
-abbrev pub Clear : Block → Seg → Type 0
+abbrev pub Clear : Block → Segment → Type 0
 Clear b g = OffSeg b.memory_offset (hull_end b) g
 
 abbrev pub Asunder : Block → Block → Type 0
@@ -40,10 +42,10 @@ pub record Placed (start top : ℕ) (b : Block) : Type 0 where
 
 -- what has none of some bytes has none of a part of them
 module _ (a e a' e' : ℕ) (h : a ≤ a') (k : e' ≤ e) where
-  pub segs_off : (segs : List Seg) → All (OffSeg a e) segs → All (OffSeg a' e') segs
+  pub segs_off : (segs : List Segment) → Each (OffSeg a e) segs → Each (OffSeg a' e') segs
   segs_off = all_map (OffSeg a e) (OffSeg a' e') (λ g. parted_parts a' e' g.offset (end_of g) h k (omega arith) (omega arith))
 
-  pub blocks_off : (bs : List Block) → All (OffBlock a e) bs → All (OffBlock a' e') bs
+  pub blocks_off : (bs : List Block) → Each (OffBlock a e) bs → Each (OffBlock a' e') bs
   blocks_off = all_map (OffBlock a e) (OffBlock a' e') (λ b. parted_parts a' e' b.memory_offset (hull_end b) h k (omega arith) (omega arith))
 
 module _ {start top : ℕ} where
@@ -55,7 +57,7 @@ module _ {start top : ℕ} where
   pub asunder_bytes : {b c : Block} → Placed start top b → Placed start top c → Asunder b c → (x : ℕ) → Holds b x → Holds c x → ⊥
   asunder_bytes p q h x m n = parted_none _ _ _ _ x h (holds_within p x m) (holds_within q x n)
 
-  pub clear_bytes : {b : Block} → Placed start top b → (g : Seg) → Clear b g → (x : ℕ) → Holds b x → Covers g x → ⊥
+  pub clear_bytes : {b : Block} → Placed start top b → (g : Segment) → Clear b g → (x : ℕ) → Holds b x → Covers g x → ⊥
   clear_bytes p g h x m n = parted_none _ _ _ _ x h (holds_within p x m) n
 
   -- it is as well placed under another top that it does not pass

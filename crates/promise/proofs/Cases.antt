@@ -7,9 +7,9 @@ use Rattle.records.specs.Answer.{Outcome, Said, refused, leaves, refuses}
 use Rattle.records.specs.declared.Shape.{Shape}
 use Rattle.records.specs.declared.Header.{Header}
 use Rattle.records.specs.declared.Block.{Block}
-use Rattle.freelist.specs.Segs.{Seg}
-use Rattle.promise.specs.declared.Call.{Call}
-use Rattle.promise.specs.declared.Call.TheVariants.{Take, Give, Discard, Rewind, SetMinimum, AddDiscarded}
+use Rattle.records.specs.declared.Segment.{Segment}
+use Rattle.calls.specs.declared.Call.{Call}
+use Rattle.calls.specs.declared.Call.TheVariants.{Take}
 use Rattle.promise.specs.Runs.{State, held_after}
 use Rattle.promise.proofs.Blocks.{Untouched}
 use Rattle.promise.proofs.Holding.{Kept, Onward, keeps}
@@ -21,7 +21,7 @@ pub record Left (s : Shape) (st : State) (c : Call) (o : Outcome) : Type 0 where
 
 module _ {s : Shape} {st : State} (k : Kept s st) (c : Call) where
   -- an outcome by a change that leaves the bytes of such blocks
-  pub left_onward : (x : Said) {before : List Block} {h : Header} {l : List ℕ} {segs : List Seg}
+  pub left_onward : (x : Said) {before : List Block} {h : Header} {l : List ℕ} {segs : List Segment}
       → ((b : Block) → Memᴰ b st.held → Memᴰ b (held_after st.held c x h.allocated) → Memᴰ b before)
       → Onward s st.bytes before h l segs (held_after st.held c x h.allocated) → Left s st c (leaves x h l)
   left_onward x which m = record { kept = keeps k.writable m.holding; still = λ b held stays. m.still b (which b held stays) }
@@ -33,8 +33,4 @@ module _ {s : Shape} {st : State} (k : Kept s st) (c : Call) where
 -- a refused call changes nothing
 pub left_refused : {s : Shape} {st : State} → Kept s st → (c : Call) (n : ℕ) (carried : List ℕ) → Left s st c (refuses n carried st.header st.bytes)
 left_refused {st = st} k (Take r) n carried = left_quiet k (Take r) (refused n carried) st.header k
-left_refused {st = st} k (Give offset size) n carried = left_quiet k (Give offset size) (refused n carried) st.header k
-left_refused {st = st} k Discard n carried = left_quiet k Discard (refused n carried) st.header k
-left_refused {st = st} k (Rewind p) n carried = left_quiet k (Rewind p) (refused n carried) st.header k
-left_refused {st = st} k (SetMinimum m) n carried = left_quiet k (SetMinimum m) (refused n carried) st.header k
-left_refused {st = st} k (AddDiscarded m) n carried = left_quiet k (AddDiscarded m) (refused n carried) st.header k
+left_refused {st = st} k c n carried = left_quiet k c (refused n carried) st.header k

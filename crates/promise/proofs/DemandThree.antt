@@ -6,9 +6,9 @@ use Rattle.records.specs.declared.Shape.{Shape}
 use Rattle.freelist.proofs.Listing.{pairs_map}
 use Rattle.freelist.proofs.Places.{all_mem}
 use Rattle.freelist.proofs.Arenas.{sound_iff}
-use Rattle.promise.specs.declared.Call.{Call}
-use Rattle.promise.specs.declared.Call.TheVariants.{Take, Give, Discard, Rewind, SetMinimum, AddDiscarded}
-use Rattle.promise.specs.Calls.{performed}
+use Rattle.calls.specs.declared.Call.{Call}
+use Rattle.calls.specs.declared.Call.TheVariants.{Take, Give, Discard, Rewind, SetMinimum, AddDiscarded}
+use Rattle.calls.specs.Calls.{performed}
 use Rattle.promise.specs.Runs.{State, Holds, Allowed, Reached, fresh, call, write, Promise, free_in}
 use Rattle.promise.proofs.Blocks.{Placed, Asunder, Clear, asunder_bytes, clear_bytes}
 use Rattle.promise.proofs.Holding.{Kept, held_placed, held_clear}

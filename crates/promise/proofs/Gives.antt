@@ -2,13 +2,16 @@
 -- the top lowered, a segment put in or bytes only counted, stays inside the block's hull, which no other block and no segment has a byte of.
 -- Assumes nothing.
 use Prim.Native.Nat.{ℕ, ◌+◌, ◌≤◌}
-use mathlib.Core.Path.{◌≡◌, refl, ap}
+use Rattle.std.specs.List.{AllByRecursion as Each}
+use Rattle.std.specs.Prelude.{Option, Some, None as Refused}
+use mathlib.Core.Path.{◌≡◌, refl}
 use mathlib.Core.Logic.{◌⊎◌, ⊎_elim}
 use mathlib.Core.Bool.{Bool, true, false}
 use mathlib.Core.List.{List, Memᴰ}
 use native.Mathlib.Omega.{arith}
-use borrow.Author.Tests.{le-ltb, eqb-true, eqb-false, not-true}
+use borrow.Author.Tests.{le-ltb, eqb-true}
 use lib.Dec.{eqb}
+use Rattle.std.proofs.lemmas.Bool.Decides.{nat_tests}
 use Rattle.words.proofs.Ranges.{Parted, parted_flip, parted_parts, parted_below}
 use Rattle.words.specs.Pick.{pick}
 use Rattle.records.specs.Answer.{Outcome, leaves, given_back}
@@ -21,10 +24,9 @@ use Rattle.records.specs.declared.Shape.{Shape}
 use Rattle.records.specs.declared.Header.{Header}
 use Rattle.records.specs.declared.Block.{Block}
 use Rattle.records.specs.declared.Segment.{Segment}
-use Rattle.records.specs.declared.Segment.TheVariants.{At, Refused}
 use Rattle.records.proofs.Facts.{pick_either}
 use Rattle.records.proofs.Rules.{Cut, cut_of}
-use Rattle.freelist.specs.Segs.{Seg, All, InRange, EndsBy, Apart, leads, end_of}
+use Rattle.freelist.specs.Segs.{InRange, EndsBy, Apart, leads, end_of}
 use Rattle.freelist.specs.Place.{place, insert_at}
 use Rattle.freelist.specs.Link.{insert_bytes, insert_head}
 use Rattle.freelist.specs.Sound.{first_of}
@@ -32,7 +34,7 @@ use Rattle.freelist.proofs.Listing.{all_map, all_both}
 use Rattle.freelist.proofs.Places.{pairs_with}
 use Rattle.freelist.proofs.Meets.{off_meets}
 use Rattle.arena.specs.Give.{put_in, below_top, giving_back}
-use Rattle.promise.specs.declared.Call.TheVariants.{Give}
+use Rattle.calls.specs.declared.Call.TheVariants.{Give}
 use Rattle.promise.specs.Runs.{State, free_in, only, elsewhere}
 use Rattle.promise.proofs.Members.{only_all, only-passes}
 use Rattle.promise.proofs.Blocks.{hull_end, Placed, Asunder, Clear}
@@ -41,16 +43,16 @@ use Rattle.promise.proofs.Cases.{Left, left_onward, left_quiet}
 
 -- a block that starts elsewhere is another one
 elsewhere_other : (b c : Block) → elsewhere b.memory_offset c ≡ true → c ≡ b → ⊥
-elsewhere_other b c f same = eqb-false c.memory_offset b.memory_offset (not-true _ f) (ap (λ (x : Block). x.memory_offset) same)
+elsewhere_other b c f same = grind (arith, nat_tests)
 
-module _ {s : Shape} {h : Header} {l : List ℕ} {segs : List Seg} {held : List Block} (k : Holding s h l segs held) (b : Block) (mem : Memᴰ b held) where
+module _ {s : Shape} {h : Header} {l : List ℕ} {segs : List Segment} {held : List Block} (k : Holding s h l segs held) (b : Block) (mem : Memᴰ b held) where
   abbrev others : List Block
   others = only (elsewhere b.memory_offset) held
 
   placed : Placed s.data_offset h.allocated b
   placed = held_placed k b mem
 
-  apart : All (Asunder b) others
+  apart : Each (Asunder b) others
   apart =
       let f = elsewhere b.memory_offset in
       all_both (λ c. (c ≡ b) ⊎ Asunder b c) (λ c. f c ≡ true) (Asunder b) (λ c o e. ⊎_elim (λ q. absurd (elsewhere_other b c e q)) (λ r. r) o) others
@@ -72,7 +74,7 @@ module _ {s : Shape} {h : Header} {l : List ℕ} {segs : List Seg} {held : List 
       (λ c r d. parted_below _ _ c.memory_offset (hull_end c) top r.below (omega arith) (omega (arith, p.some)) (omega (arith, r.some)) d) others rest.placed apart)
 
   -- below it: a segment inside the block's memory
-  module _ (o : Order) (policy : s.policy ≡ Ordered o) (q : Seg) (c : Cut b.memory_offset b.memory_size q.offset q.size) where
+  module _ (o : Order) (policy : s.policy ≡ Ordered o) (q : Segment) (c : Cut b.memory_offset b.memory_size q) where
     inside : (x y : ℕ) → Parted b.memory_offset (hull_end b) x y → Parted x y q.offset (end_of q)
     inside x y e = parted_parts x y q.offset (end_of q) (omega arith) (omega arith) c.low (omega (arith, c.ends)) (parted_flip b.memory_offset (hull_end b) x y e)
 
@@ -110,17 +112,17 @@ module _ {s : Shape} {st : State} (k : Kept s st) (b : Block) (mem : Memᴰ b st
   gives_one : (P : Outcome → Type 0)
       → (b.memory_offset + b.memory_size ≡ st.header.allocated → P (leaves (given_back true) (with_top st.header b.memory_offset) st.bytes))
       → ((x : Bool) → P (leaves (given_back x) (losing st.header b.memory_size) st.bytes))
-      → ((o : Order) → s.policy ≡ Ordered o → (p n : ℕ) → segment_of st.header.minimum_segment_size b.memory_offset b.memory_size ≡ At p n
-      → P (put_in st.header st.bytes (free_in s st) o b.memory_size (At p n)))
+      → ((o : Order) → s.policy ≡ Ordered o → (q : Segment) → segment_of st.header.minimum_segment_size b.memory_offset b.memory_size ≡ Some q
+      → P (put_in st.header st.bytes (free_in s st) o b.memory_size (Some q)))
       → P (giving_back s st.header st.bytes b.memory_offset b.memory_size)
   unfolding below_top put_in
   gives_one P top lost new =
       rw gives_held (pick_either P (eqb (b.memory_offset + b.memory_size) st.header.allocated) _ _ (λ e. top (eqb-true _ _ e)) (λ _. below s.policy refl))
     where
-      put : (o : Order) → s.policy ≡ Ordered o → (x : Segment) → segment_of st.header.minimum_segment_size b.memory_offset b.memory_size ≡ x
+      put : (o : Order) → s.policy ≡ Ordered o → (x : Option Segment) → segment_of st.header.minimum_segment_size b.memory_offset b.memory_size ≡ x
           → P (put_in st.header st.bytes (free_in s st) o b.memory_size x)
       put o policy Refused e = lost false
-      put o policy (At p n) e = new o policy p n e
+      put o policy (Some q) e = new o policy q e
 
       below : (f : Policy) → s.policy ≡ f → P (below_top f s st.header st.bytes b.memory_offset b.memory_size)
       below None policy = lost true
@@ -129,7 +131,7 @@ module _ {s : Shape} {st : State} (k : Kept s st) (b : Block) (mem : Memᴰ b st
   pub give_taken : Taken (giving_back s st.header st.bytes b.memory_offset b.memory_size)
   unfolding put_in
   give_taken =
-      gives_one Taken (λ _. record { answer = true; is = refl }) (λ x. record { answer = x; is = refl }) (λ o policy p n e. record { answer = true; is = refl })
+      gives_one Taken (λ _. record { answer = true; is = refl }) (λ x. record { answer = x; is = refl }) (λ o policy q e. record { answer = true; is = refl })
 
   pub give_left : Left s st (Give b.memory_offset b.memory_size) (giving_back s st.header st.bytes b.memory_offset b.memory_size)
   unfolding put_in
@@ -138,4 +140,4 @@ module _ {s : Shape} {st : State} (k : Kept s st) (b : Block) (mem : Memᴰ b st
       gives_one (Left s st c)
       (λ e. left_quiet k c (given_back true) _ (keeps k.writable (lowered k.holding b mem e)))
       (λ x. left_quiet k c (given_back x) _ (keeps k.writable (hold_counters (rest k.holding b mem) _ refl refl)))
-      (λ o policy p n e. left_onward k c (given_back true) (λ x held stays. stays) (returned k.holding b mem o policy (record { offset = p; size = n }) (cut_of _ _ _ p n e)))
+      (λ o policy q e. left_onward k c (given_back true) (λ x held stays. stays) (returned k.holding b mem o policy q (cut_of _ _ _ q e)))

@@ -11,7 +11,7 @@ use Rattle.records.specs.declared.Shape.{Shape}
 use Rattle.records.specs.declared.Block.{Block}
 use Rattle.freelist.specs.Segs.{Pairwise}
 use Rattle.freelist.proofs.Listing.{pairs_map}
-use Rattle.promise.specs.declared.Call.{Call}
+use Rattle.calls.specs.declared.Call.{Call}
 use Rattle.promise.specs.Runs.{State, Holds, Allowed, Reached, after}
 use Rattle.promise.proofs.Blocks.{Placed, Asunder, holds_within}
 use Rattle.promise.proofs.Holding.{held_placed}

@@ -3,6 +3,7 @@
 -- changed that are no node's, the list emptied, a segment put in or taken out, a block granted in a range that is nobody's. Where one of these changes
 -- bytes, none of a held block's is among them. Assumes nothing.
 use Prim.Native.Nat.{ℕ, ◌+◌, ◌≤◌, ◌<◌}
+use Rattle.std.specs.List.{AllByRecursion as Each}
 use mathlib.Core.Path.{◌≡◌, refl, sym, subst, ◌∙◌}
 use mathlib.Core.Bool.{Bool, true, false}
 use mathlib.Core.List.{List, [], ◌∷◌, Memᴰ}
@@ -17,7 +18,8 @@ use Rattle.records.specs.declared.Policy.TheVariants.{Ordered}
 use Rattle.records.specs.declared.Shape.{Shape}
 use Rattle.records.specs.declared.Header.{Header}
 use Rattle.records.specs.declared.Block.{Block}
-use Rattle.freelist.specs.Segs.{Seg, All, Pairwise, InRange, EndsBy, Apart, Good, leads, end_of}
+use Rattle.records.specs.declared.Segment.{Segment}
+use Rattle.freelist.specs.Segs.{Pairwise, InRange, EndsBy, Apart, Good, leads, end_of}
 use Rattle.freelist.specs.Place.{place, insert_at, remove_at}
 use Rattle.freelist.specs.Link.{insert_bytes, insert_head, remove_bytes, remove_head}
 use Rattle.freelist.specs.Sound.{first_of, sound, free}
@@ -33,58 +35,58 @@ use Rattle.promise.proofs.Members.{only_all, only_pairs}
 use Rattle.promise.proofs.Blocks.{hull_end, OffBlock, Placed, Asunder, Clear, Untouched, placed_under, segs_off, blocks_off}
 
 -- with this header and these bytes the arena is sound and has these free segments, and these blocks are held
-pub record Holding (s : Shape) (h : Header) (l : List ℕ) (segs : List Seg) (held : List Block) : Type 0 where
+pub record Holding (s : Shape) (h : Header) (l : List ℕ) (segs : List Segment) (held : List Block) : Type 0 where
   pub sounds : sound s h l ≡ true
   pub lists : free s h l ≡ segs
-  pub placed : All (Placed s.data_offset h.allocated) held
+  pub placed : Each (Placed s.data_offset h.allocated) held
   pub apart : Pairwise Asunder held
-  pub clear : All (λ b. All (Clear b) segs) held
+  pub clear : Each (λ b. Each (Clear b) segs) held
 
 -- the invariant of a state
 pub record Kept (s : Shape) (st : State) : Type 0 where
   pub writable : s.read_only ≡ false
   pub holding : Holding s st.header st.bytes (free_in s st) st.held
 
-pub keeps : {s : Shape} {h : Header} {l : List ℕ} {segs : List Seg} {held : List Block} → s.read_only ≡ false → Holding s h l segs held → Kept s (record { header = h; bytes = l; held = held })
+pub keeps : {s : Shape} {h : Header} {l : List ℕ} {segs : List Segment} {held : List Block} → s.read_only ≡ false → Holding s h l segs held → Kept s (record { header = h; bytes = l; held = held })
 keeps {s} {h} {l} {segs} {held} writable k =
-    record { writable = writable; holding = subst (λ (gs : List Seg). Holding s h l gs held) (sym k.lists) k }
+    record { writable = writable; holding = subst (λ (gs : List Segment). Holding s h l gs held) (sym k.lists) k }
 
 -- a change of the bytes l to l' that leads to this, and leaves the bytes of the blocks held before
-pub record Onward (s : Shape) (l : List ℕ) (before : List Block) (h : Header) (l' : List ℕ) (segs : List Seg) (held : List Block) : Type 0 where
+pub record Onward (s : Shape) (l : List ℕ) (before : List Block) (h : Header) (l' : List ℕ) (segs : List Segment) (held : List Block) : Type 0 where
   pub holding : Holding s h l' segs held
   pub still : (b : Block) → Memᴰ b before → Untouched b l l'
 
 -- one such change after another
-pub onward_then : {s : Shape} {l l₁ l₂ : List ℕ} {before held : List Block} {h₁ h₂ : Header} {segs₁ segs₂ : List Seg}
+pub onward_then : {s : Shape} {l l₁ l₂ : List ℕ} {before held : List Block} {h₁ h₂ : Header} {segs₁ segs₂ : List Segment}
     → Onward s l before h₁ l₁ segs₁ before → Onward s l₁ before h₂ l₂ segs₂ held → Onward s l before h₂ l₂ segs₂ held
 onward_then a b = record { holding = b.holding; still = λ c m x low high. b.still c m x low high ∙ a.still c m x low high }
 
-module _ {s : Shape} {h : Header} {l : List ℕ} {segs : List Seg} {held : List Block} (k : Holding s h l segs held) where
+module _ {s : Shape} {h : Header} {l : List ℕ} {segs : List Segment} {held : List Block} (k : Holding s h l segs held) where
   pub hold_head : Head s h (length l)
   hold_head = sound_head s h l k.sounds
 
-  pub hold_ranged : All (InRange s.data_offset h.allocated) segs
+  pub hold_ranged : Each (InRange s.data_offset h.allocated) segs
   hold_ranged = rw k.lists at (sound_ranged s h l k.sounds)
 
   pub hold_parted : Pairwise Apart segs
   hold_parted = rw k.lists at (sound_apart s h l k.sounds)
 
-  pub hold_below : All (EndsBy h.allocated) segs
+  pub hold_below : Each (EndsBy h.allocated) segs
   hold_below = rw k.lists at (sound_below s h l k.sounds)
 
-  hold_ends : All (EndsBy (length l)) segs
+  hold_ends : Each (EndsBy (length l)) segs
   hold_ends = rw k.lists at (sound_ends s h l k.sounds)
 
   pub hold_good : (o : Order) → s.policy ≡ Ordered o → Good s.data_offset h.allocated o segs
-  hold_good o policy = subst (λ (gs : List Seg). Good s.data_offset h.allocated o gs) k.lists (sound_listed s h l k.sounds o policy).good
+  hold_good o policy = subst (λ (gs : List Segment). Good s.data_offset h.allocated o gs) k.lists (sound_listed s h l k.sounds o policy).good
 
   -- what is known of a held block
   module _ (b : Block) (mem : Memᴰ b held) where
     pub held_placed : Placed s.data_offset h.allocated b
     held_placed = all_mem (Placed s.data_offset h.allocated) b held mem k.placed
 
-    pub held_clear : All (Clear b) segs
-    held_clear = all_mem (λ c. All (Clear c) segs) b held mem k.clear
+    pub held_clear : Each (Clear b) segs
+    held_clear = all_mem (λ c. Each (Clear c) segs) b held mem k.clear
 
   -- some blocks are held no more
   pub hold_only : (f : Block → Bool) → Holding s h l segs (only f held)
@@ -94,12 +96,12 @@ module _ {s : Shape} {h : Header} {l : List ℕ} {segs : List Seg} {held : List 
         lists = k.lists;
         placed = only_all f (Placed s.data_offset h.allocated) held k.placed;
         apart = only_pairs f Asunder held k.apart;
-        clear = only_all f (λ b. All (Clear b) segs) held k.clear;
+        clear = only_all f (λ b. Each (Clear b) segs) held k.clear;
       }
 
   -- the top moves to where neither segment nor block passes it
   pub hold_top : (h' : Header) → h'.sentinel ≡ h.sentinel → s.data_offset ≤ h'.allocated → h'.allocated ≤ s.cap
-      → All (EndsBy h'.allocated) segs → All (λ b. hull_end b ≤ h'.allocated) held → Holding s h' l segs held
+      → Each (EndsBy h'.allocated) segs → Each (λ b. hull_end b ≤ h'.allocated) held → Holding s h' l segs held
   hold_top h' same low high ends hulls =
       let m = sound_top s h l k.sounds h' same low (omega (arith, hold_head.whole)) (rw k.lists ends) in
       record {
@@ -119,13 +121,13 @@ module _ {s : Shape} {h : Header} {l : List ℕ} {segs : List Seg} {held : List 
       (all_map (Placed s.data_offset h.allocated) (λ b. hull_end b ≤ h'.allocated) (λ b p. omega (arith, p.below)) held k.placed)
 
   -- bytes change that are no node's
-  pub hold_agree : (m : List ℕ) → length m ≡ length l → All (Agree l m) segs → Holding s h m segs held
+  pub hold_agree : (m : List ℕ) → length m ≡ length l → Each (Agree l m) segs → Holding s h m segs held
   hold_agree m long same =
       let n = sound_agree s h l k.sounds m long (rw k.lists same) in
       record { sounds = n.0; lists = n.1 ∙ k.lists; placed = k.placed; apart = k.apart; clear = k.clear }
 
   -- a block is granted in a range that is nobody's, and bytes of the range are zeroed
-  pub hold_granted : (a e x y : ℕ) (b : Block) → Placed a e b → s.data_offset ≤ a → e ≤ h.allocated → a ≤ x → x ≤ y → y ≤ e → All (OffSeg a e) segs → All (OffBlock a e) held
+  pub hold_granted : (a e x y : ℕ) (b : Block) → Placed a e b → s.data_offset ≤ a → e ≤ h.allocated → a ≤ x → x ≤ y → y ≤ e → Each (OffSeg a e) segs → Each (OffBlock a e) held
       → Onward s l held h (zeroed l x y) segs (b ∷ held)
   hold_granted a e x y b p low high from order to off others =
       let fits : y ≤ length l = omega (arith, hold_head) in
@@ -143,7 +145,7 @@ module _ {s : Shape} {h : Header} {l : List ℕ} {segs : List Seg} {held : List 
             λ c m. zeroed_still _ _ l x y order fits (parted_flip x y _ _ (all_mem (OffBlock x y) c held m (blocks_off a e x y from to held others)));
       }
     where
-      eight : (g : Seg) → OffSeg a e g → Outside x y g
+      eight : (g : Segment) → OffSeg a e g → Outside x y g
       eight g u = parted_parts g.offset (g.offset + 8) x y (omega arith) (omega arith) from to (parted_flip a e g.offset (end_of g) u)
 
   module _ (h' : Header) (top : h'.allocated ≡ h.allocated) where
@@ -157,11 +159,11 @@ module _ {s : Shape} {h : Header} {l : List ℕ} {segs : List Seg} {held : List 
           lists = n.1;
           placed = rw top k.placed;
           apart = k.apart;
-          clear = all_map (λ b. All (Clear b) segs) (λ b. All (Clear b) []) (λ b a. tt) held k.clear;
+          clear = all_map (λ b. Each (Clear b) segs) (λ b. Each (Clear b) []) (λ b a. tt) held k.clear;
         }
 
     -- a segment is put in that no block has a byte of
-    pub hold_insert : (o : Order) → s.policy ≡ Ordered o → (q : Seg) → InRange s.data_offset h.allocated q → All (λ t. Apart t q) segs → All (λ b. Clear b q) held
+    pub hold_insert : (o : Order) → s.policy ≡ Ordered o → (q : Segment) → InRange s.data_offset h.allocated q → Each (λ t. Apart t q) segs → Each (λ b. Clear b q) held
         → h'.sentinel ≡ node_word end_mark (insert_head (first_of h) segs (place (leads o q) segs) q)
         → Onward s l held h' (insert_bytes l segs (place (leads o q) segs) q) (insert_at (place (leads o q) segs) q segs) held
     hold_insert o policy q range off c e =
@@ -174,7 +176,7 @@ module _ {s : Shape} {h : Header} {l : List ℕ} {segs : List Seg} {held : List 
                 lists = rw k.lists at n.1;
                 placed = rw top k.placed;
                 apart = k.apart;
-                clear = all_both (λ b. Clear b q) (λ b. All (Clear b) segs) (λ b. All (Clear b) (insert_at i q segs)) (λ b. all_insert (Clear b) i q segs) held c k.clear;
+                clear = all_both (λ b. Clear b q) (λ b. Each (Clear b) segs) (λ b. Each (Clear b) (insert_at i q segs)) (λ b. all_insert (Clear b) i q segs) held c k.clear;
               };
           still =
               λ b m. insert_still _ _ l segs i hold_ends (held_clear b m) q (omega (arith, range.below, hold_head)) (all_mem (λ x. Clear x q) b held m c);
@@ -191,7 +193,7 @@ module _ {s : Shape} {h : Header} {l : List ℕ} {segs : List Seg} {held : List 
                 lists = rw k.lists at n.1;
                 placed = rw top k.placed;
                 apart = k.apart;
-                clear = all_map (λ b. All (Clear b) segs) (λ b. All (Clear b) (remove_at i segs)) (λ b. all_remove (Clear b) i segs) held k.clear;
+                clear = all_map (λ b. Each (Clear b) segs) (λ b. Each (Clear b) (remove_at i segs)) (λ b. all_remove (Clear b) i segs) held k.clear;
               };
           still = λ b m. remove_still _ _ l segs i hold_ends (held_clear b m);
         }

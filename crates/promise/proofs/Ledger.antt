@@ -1,20 +1,17 @@
 -- Document 01, 'A day's ledger, step by step': its lines as one listing, computed on the definitions that the contracts cite.
 -- Each line has what the definitions compute and what the document states; one theorem says that they agree on every line. Assumes nothing.
 use Prim.Native.Nat.{ℕ, ◌-◌}
-use mathlib.Core.Path.{◌≡◌, refl}
+use Rattle.std.specs.List.{AllByRecursion as Each}
+use Rattle.std.specs.Prelude.{Option, Some, None as Refused}
+use mathlib.Core.Path.{◌≡◌}
 use mathlib.Core.Bool.{true, false}
 use mathlib.Core.List.{List, [], ◌∷◌, ◌++◌, map}
+use borrow.Author.Rules.{rules}
 use lib.IntN.{pos, negsuc}
 use lib.ListN.{take, drop, replicate}
-use Rattle.words.specs.Round as R
-use Rattle.words.specs.Align as Al
-use Rattle.words.specs.Word as W
 use Rattle.records.specs.Answer.{Outcome, Said, granted, nothing, given_back, done, refused, Began, ready}
-use Rattle.records.specs.Setup as St
-use Rattle.records.specs.Setup.{data_offset, fresh_header, setting_up}
+use Rattle.records.specs.Setup.{code_of, data_offset, fresh_header, setting_up}
 use Rattle.records.specs.Change.{with_top}
-use Rattle.records.specs.Head as Hd
-use Rattle.records.specs.Rule as Ru
 use Rattle.records.specs.Rule.{segment_of}
 use Rattle.records.specs.declared.Order.{Order}
 use Rattle.records.specs.declared.Order.TheVariants.{Optimistic, Pessimistic}
@@ -27,29 +24,20 @@ use Rattle.records.specs.declared.Request.TheVariants.{Bytes, Typed, Aligned}
 use Rattle.records.specs.declared.Position.{Position}
 use Rattle.records.specs.declared.Position.TheVariants.{Start, Current, End}
 use Rattle.records.specs.declared.Segment.{Segment}
-use Rattle.records.specs.declared.Segment.TheVariants.{At, Refused}
-use Rattle.requests.specs.Request as Rq
 use Rattle.requests.specs.Request.{block}
-use Rattle.positions.specs.NewTop as P
-use Rattle.freelist.specs.Segs.{Seg, All}
-use Rattle.freelist.specs.Check as C
-use Rattle.freelist.specs.Link as L
-use Rattle.freelist.specs.Sound as So
 use Rattle.freelist.specs.Sound.{free}
-use Rattle.arena.specs.Take as T
 use Rattle.arena.specs.Take.{taking}
-use Rattle.arena.specs.Give as G
 use Rattle.arena.specs.Give.{giving_back}
-use Rattle.arena.specs.Rewind as Re
 use Rattle.arena.specs.Rewind.{rewinding}
+use Rattle.promise.proofs.Opened.{opened}
 
 -- a line's figure: what a call said, alone or with the top that it left, the list with the count of discarded bytes, bytes or offsets, a segment, an arena set up
 pub data Figure : Type 0 where
   says : Said → Figure
   says_at : Said → ℕ → Figure
-  list : List Seg → ℕ → Figure
+  list : List Segment → ℕ → Figure
   bytes : List ℕ → Figure
-  rule : Segment → Figure
+  rule : Option Segment → Figure
   setup : Began → Figure
 
 abbrev pub shape : ℕ → ℕ → Policy → Shape
@@ -62,14 +50,9 @@ take' s o r = taking s o.header o.bytes r
 abbrev pub give : Shape → Outcome → ℕ → ℕ → Outcome
 give s o p n = giving_back s o.header o.bytes p n
 
--- the policies by their codes: optimistic 1, pessimistic 2
-abbrev pub policy : Order → ℕ
-policy Optimistic = 1
-policy Pessimistic = 2
-
 -- 01: start S: cap 200, reserved 7 (data offset 8), minimum 20: what setup is given, and the fresh arena
 abbrev pub settings : Order → Settings
-settings o = record { reserved = 7; unify = false; policy = policy o; minimum_segment_size = 20; read_only = false }
+settings o = record { reserved = 7; unify = false; policy = code_of (Ordered o); minimum_segment_size = 20; read_only = false }
 
 abbrev pub day : Order → Shape
 day o = shape 200 8 (Ordered o)
@@ -122,7 +105,7 @@ keeping o x = list (free (day o) x.header x.bytes) x.header.discarded
 abbrev pub kept_after : Order → Request → Figure
 kept_after o r = keeping o (taken o r)
 
-abbrev pub seg : ℕ → ℕ → Seg
+abbrev pub seg : ℕ → ℕ → Segment
 seg p n = record { offset = p; size = n }
 
 abbrev pub block4 : ℕ → ℕ → ℕ → ℕ → Figure
@@ -212,11 +195,11 @@ top_again o =
 -- rule at offset 16: size 28 accepted (20), 27 refused; minimum 0: 9 accepted, 8 refused. (13,33): node 16, size 22
 abbrev pub segment_rule : List Line
 segment_rule =
-    line (rule (segment_of 20 16 28)) (rule (At 16 20))
+    line (rule (segment_of 20 16 28)) (rule (Some (seg 16 20)))
     ∷ line (rule (segment_of 20 16 27)) (rule Refused)
-    ∷ line (rule (segment_of 0 16 9)) (rule (At 16 1))
+    ∷ line (rule (segment_of 0 16 9)) (rule (Some (seg 16 1)))
     ∷ line (rule (segment_of 0 16 8)) (rule Refused)
-    ∷ line (rule (segment_of 20 13 33)) (rule (At 16 22))
+    ∷ line (rule (segment_of 20 13 33)) (rule (Some (seg 16 22)))
     ∷ []
 
 -- data offsets for reserved 0, 1, 8, 9: 1, 2, 9, 10; unify 32, 40, 40, 48
@@ -278,7 +261,6 @@ ledger =
     ∷ []
 
 -- every line of the ledger holds
-pub ledger_holds : All (All Agrees) ledger
-unfolding R.round_up Al.good_align W.value_of W.digits W.splice W.word_at W.put_word W.zeroed St.data_offset St.policy_of St.setting_up Hd.head_sound Ru.segment_of Rq.good_layout Rq.well_formed Rq.plain Rq.for_nothing Rq.want Rq.need Rq.asked Rq.top_block Rq.zeroed_from Rq.list_block P.exact_top P.new_top C.in_range C.may_follow C.kept C.good_run C.soundb L.link_bytes L.link_head L.insert_bytes L.insert_head L.remove_bytes L.remove_head So.sound So.free T.from_top T.first_fit T.head_fit T.look T.serve_from T.serve T.from_list T.past_top T.taking G.put_in G.below_top G.giving_back Re.rewinding
-ledger_holds =
-    ((refl, (refl, (refl, (refl, (refl, (refl, (refl, (refl, (refl, (refl, (refl, (refl, tt)))))))))))), ((refl, (refl, tt)), ((refl, (refl, (refl, (refl, tt)))), ((refl, (refl, (refl, (refl, tt)))), ((refl, (refl, tt)), ((refl, (refl, tt)), ((refl, (refl, tt)), ((refl, (refl, (refl, (refl, (refl, tt))))), ((refl, (refl, tt)), ((refl, (refl, tt)), ((refl, (refl, tt)), ((refl, (refl, (refl, (refl, (refl, (refl, (refl, (refl, (refl, (refl, (refl, (refl, (refl, (refl, (refl, (refl, tt)))))))))))))))), ((refl, (refl, (refl, (refl, tt)))), tt)))))))))))))
+pub ledger_holds : Each (Each Agrees) ledger
+unfolding opened
+ledger_holds = search rules

@@ -1,4 +1,5 @@
 -- The theorems on whole days of calls.
+pub mod Opened
 pub mod Ledger
 pub mod Members
 pub mod Blocks

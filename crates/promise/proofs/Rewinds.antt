@@ -6,9 +6,7 @@ use mathlib.Core.Bool.{true, not}
 use native.Mathlib.Omega.{arith}
 use borrow.Author.Tests.{leb-true}
 use lib.Dec.{leb}
-use lib.ListN.{length}
 use Rattle.records.specs.Answer.{Outcome, leaves, sum, done}
-use Rattle.records.specs.Head.{head_sound}
 use Rattle.records.specs.Change.{with_top, with_minimum, losing}
 use Rattle.records.proofs.Facts.{both, pick_either}
 use Rattle.records.specs.declared.Shape.{Shape}
@@ -21,8 +19,8 @@ use Rattle.freelist.specs.Sound.{sound}
 use Rattle.freelist.proofs.Listing.{all_map}
 use Rattle.freelist.proofs.Meets.{above_none}
 use Rattle.arena.specs.Rewind.{discarding, rewound, rewinding, setting, setting_minimum, adding_discarded}
-use Rattle.promise.specs.declared.Call.{Call}
-use Rattle.promise.specs.declared.Call.TheVariants.{Discard, Rewind, SetMinimum, AddDiscarded}
+use Rattle.calls.specs.declared.Call.{Call}
+use Rattle.calls.specs.declared.Call.TheVariants.{Discard, Rewind, SetMinimum, AddDiscarded}
 use Rattle.promise.specs.Runs.{State, free_in, only, ends_by}
 use Rattle.promise.proofs.Members.{only-passes}
 use Rattle.promise.proofs.Blocks.{hull_end}
@@ -61,10 +59,7 @@ module _ {s : Shape} {st : State} (k : Kept s st) where
   -- a setter refuses, or leaves the bytes and its header
   set_left : (c : Call) (h : Header) → Left s st c (leaves done h st.bytes) → Left s st c (setting s st.header st.bytes h)
   unfolding setting
-  set_left c h change =
-      let P : Outcome → Type 0 = Left s st c in
-      pick_either P s.read_only _ _ (λ _. left_refused k c _ _)
-      (λ _. pick_either P (not (head_sound s st.header (length st.bytes))) _ _ (λ _. left_refused k c _ _) (λ _. change))
+  set_left c h change = grind (arith, left_refused k c)
 
   pub minimum_left : (n : ℕ) → Left s st (SetMinimum n) (setting_minimum s st.header st.bytes n)
   minimum_left n =

@@ -14,7 +14,7 @@ use Rattle.records.specs.declared.Shape.{Shape}
 use Rattle.records.specs.declared.Header.{Header}
 use Rattle.records.specs.declared.Block.{Block}
 use Rattle.records.proofs.Rules.{ready_head}
-use Rattle.freelist.specs.Segs.{Seg}
+use Rattle.records.specs.declared.Segment.{Segment}
 use Rattle.freelist.proofs.Places.{all_mem, mem_all}
 use Rattle.freelist.proofs.Words.{Agree}
 use Rattle.freelist.proofs.Moves.{sound_empty}
@@ -31,7 +31,7 @@ fresh_keeps s settings h l e writable =
 pub write_keeps : {s : Shape} {st : State} (l : List ℕ) → Written st l → Kept s st → Kept s (record { header = st.header; bytes = l; held = st.held })
 write_keeps {s} {st} l w k = keeps k.writable (hold_agree k.holding l w.long (mem_all (Agree st.bytes l) (free_in s st) agree))
   where
-    agree : (g : Seg) → Memᴰ g (free_in s st) → Agree st.bytes l g
+    agree : (g : Segment) → Memᴰ g (free_in s st) → Agree st.bytes l g
     agree g m x low high =
         w.outside x (λ b held has.
         clear_bytes (held_placed k.holding b held) g (all_mem (Clear b) g (free_in s st) m (held_clear k.holding b held)) x has (low, omega arith))

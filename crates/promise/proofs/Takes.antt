@@ -2,6 +2,8 @@
 -- leaves it and the new block lies inside that segment, before the rest that may go back; so it is apart from all that was apart from the segment.
 -- Assumes nothing.
 use Prim.Native.Nat.{ℕ, ◌+◌, ◌-◌, ◌≤◌, ◌<◌}
+use Rattle.std.specs.List.{AllByRecursion as Each}
+use Rattle.std.specs.Prelude.{Option, Some, None as Refused}
 use mathlib.Core.Path.{◌≡◌, refl, sym, ap}
 use mathlib.Core.Logic.{inl, inr}
 use mathlib.Core.Bool.{true, not}
@@ -24,12 +26,11 @@ use Rattle.records.specs.declared.Header.{Header}
 use Rattle.records.specs.declared.Block.{Block}
 use Rattle.records.specs.declared.Request.{Request}
 use Rattle.records.specs.declared.Segment.{Segment}
-use Rattle.records.specs.declared.Segment.TheVariants.{At, Refused}
 use Rattle.records.proofs.Facts.{pick_either}
 use Rattle.records.proofs.Rules.{Cut, cut_of}
 use Rattle.requests.specs.Request.{well_formed, plain, for_nothing, want, need, top_block, zeroed_from, list_block}
 use Rattle.requests.proofs.Plans.{block_in_top, block_in_list, zeroed_from_top, zeroed_to_want, plain_formed, need_some, want_above}
-use Rattle.freelist.specs.Segs.{Seg, All, InRange, EndsBy, Apart, leads, end_of}
+use Rattle.freelist.specs.Segs.{InRange, EndsBy, Apart, leads, end_of}
 use Rattle.freelist.specs.Place.{place, insert_at, remove_at}
 use Rattle.freelist.specs.Link.{insert_bytes, insert_head, remove_bytes, remove_head}
 use Rattle.freelist.specs.Sound.{first_of, sound}
@@ -39,7 +40,7 @@ use Rattle.freelist.proofs.Meets.{OffSeg, apart_sym}
 use Rattle.freelist.proofs.Links.{remove_small}
 use Rattle.freelist.proofs.Sounds.{rest_apart}
 use Rattle.arena.specs.Take.{from_top, serve_from, nowhere, serve, taking}
-use Rattle.promise.specs.declared.Call.TheVariants.{Take}
+use Rattle.calls.specs.declared.Call.TheVariants.{Take}
 use Rattle.promise.specs.Runs.{State, free_in}
 use Rattle.promise.proofs.Blocks.{hull_end, OffBlock, Placed, Clear, segs_off, blocks_off}
 use Rattle.promise.proofs.Holding.{Holding, Onward, Kept, onward_then, hold_head, hold_ranged, hold_parted, hold_below, hold_good, hold_top, hold_granted, hold_insert, hold_remove}
@@ -53,7 +54,7 @@ top_placed top r formed more = let b = block_in_top top r formed in omega arith
 list_placed : (p m : ℕ) (r : Request) → well_formed r ≡ true → 1 ≤ need r → need r ≤ m → Placed p (p + 8 + m) (list_block p m r)
 list_placed p m r formed some fits = let b = block_in_list p m r formed fits in omega arith
 
-module _ {s : Shape} {h : Header} {l : List ℕ} {segs : List Seg} {held : List Block} (k : Holding s h l segs held) (r : Request) (formed : well_formed r ≡ true) where
+module _ {s : Shape} {h : Header} {l : List ℕ} {segs : List Segment} {held : List Block} (k : Holding s h l segs held) (r : Request) (formed : well_formed r ≡ true) where
   -- the top serves the request
   topped : h.allocated < want h.allocated r → want h.allocated r ≤ s.cap
       → Onward s l held (with_top h (want h.allocated r)) (zeroed l (zeroed_from h.allocated r) (want h.allocated r)) segs (top_block h.allocated r ∷ held)
@@ -69,24 +70,24 @@ module _ {s : Shape} {h : Header} {l : List ℕ} {segs : List Seg} {held : List 
 
   -- the i-th segment leaves the list and serves the request, as a whole or up to a rest that goes back
   module _ (o : Order) (policy : s.policy ≡ Ordered o) (some : 1 ≤ need r) (i : ℕ) (there : i < length segs) (fits : need r ≤ (get_or segs i nowhere).size) where
-    abbrev g : Seg
+    abbrev g : Segment
     g = get_or segs i nowhere
 
-    abbrev left : List Seg
+    abbrev left : List Segment
     left = remove_at i segs
 
     range : InRange s.data_offset h.allocated g
     range = all_at (InRange s.data_offset h.allocated) i segs nowhere there (hold_ranged k)
 
     -- nothing else has a byte of it
-    others : All (OffSeg g.offset (end_of g)) left
+    others : Each (OffSeg g.offset (end_of g)) left
     others =
         all_map (λ t. Apart t g) (Apart g) (λ t. apart_sym t g) left
         (pairs_without Apart apart_sym i segs nowhere there (hold_parted k))
 
-    blocks : All (OffBlock g.offset (end_of g)) held
+    blocks : Each (OffBlock g.offset (end_of g)) held
     blocks =
-        all_map (λ b. All (Clear b) segs) (OffBlock g.offset (end_of g)) (λ b c. parted_flip b.memory_offset (hull_end b) g.offset (end_of g) (all_at (Clear b) i segs nowhere there c)) held
+        all_map (λ b. Each (Clear b) segs) (OffBlock g.offset (end_of g)) (λ b c. parted_flip b.memory_offset (hull_end b) g.offset (end_of g) (all_at (Clear b) i segs nowhere there c)) held
         k.clear
 
     abbrev out : Header
@@ -107,7 +108,7 @@ module _ {s : Shape} {h : Header} {l : List ℕ} {segs : List Seg} {held : List 
         let n = hold_head k in
         word_next end_mark (remove_head (first_of h) segs i) (remove_small h.allocated (first_of h) segs i (omega (arith, n)) (hold_below k) (omega arith))
 
-    module _ (q : Seg) (c : Cut (g.offset + 8 + need r) (g.size - need r) q.offset q.size) where
+    module _ (q : Segment) (c : Cut (g.offset + 8 + need r) (g.size - need r) q) where
       abbrev at : ℕ
       at = place (leads o q) left
 
@@ -141,12 +142,12 @@ module _ {s : Shape} {st : State} (k : Kept s st) (r : Request) where
   unfolding serve serve_from
   list_left o policy p formed some i there fits = go _ refl
     where
-      go : (x : Segment) → segment_of st.header.minimum_segment_size ((get_or (free_in s st) i nowhere).offset + 8 + need p) ((get_or (free_in s st) i nowhere).size - need p) ≡ x
+      go : (x : Option Segment) → segment_of st.header.minimum_segment_size ((get_or (free_in s st) i nowhere).offset + 8 + need p) ((get_or (free_in s st) i nowhere).size - need p) ≡ x
           → Left s st (Take r) (serve_from st.header (remove_bytes st.bytes (free_in s st) i) (remove_head (first_of st.header) (free_in s st) i) (remove_at i (free_in s st)) o p (get_or (free_in s st) i nowhere) x)
       go Refused e = left_onward k (Take r) (granted _) (λ b held stays. held) (served_whole k.holding p formed o policy some i there fits)
-      go (At q n) e =
+      go (Some q) e =
           left_onward k (Take r) (granted _) (λ b held stays. held)
-          (served_split k.holding p formed o policy some i there fits (record { offset = q; size = n }) (cut_of _ _ _ q n e))
+          (served_split k.holding p formed o policy some i there fits q (cut_of _ _ _ q e))
 
   pub take_left : Left s st (Take r) (taking s st.header st.bytes r)
   unfolding taking from_top

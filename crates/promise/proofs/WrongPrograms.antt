@@ -12,13 +12,12 @@ use mathlib.Core.List.{List, []}
 use native.Mathlib.Omega.{arith}
 use lib.Dec.{ltb, eqb}
 use lib.ListN.{length, replicate, get_or}
-use Rattle.words.specs.Round as R
+use Rattle.std.specs.Prelude.{Option, Some, None as Refused}
 use Rattle.words.specs.Word as W
 use Rattle.words.specs.Pick.{pick}
-use Rattle.records.specs.Answer.{Outcome, Said, granted, nothing, given_back, sum, done, refused, ready, leaves, refuses}
+use Rattle.records.specs.Answer.{Outcome, Said, granted, given_back, sum, refused, ready, leaves, refuses}
 use Rattle.records.specs.Setup as St
 use Rattle.records.specs.Change.{with_first, losing}
-use Rattle.records.specs.Head as Hd
 use Rattle.records.specs.Rule as Ru
 use Rattle.records.specs.declared.Order.TheVariants.{Optimistic}
 use Rattle.records.specs.declared.Policy.{Policy}
@@ -30,28 +29,21 @@ use Rattle.records.specs.declared.Block.{Block}
 use Rattle.records.specs.declared.Request.{Request}
 use Rattle.records.specs.declared.Request.TheVariants.{Bytes}
 use Rattle.records.specs.declared.Segment.{Segment}
-use Rattle.records.specs.declared.Segment.TheVariants.{At, Refused}
 use Rattle.records.proofs.Facts.{pick_either}
-use Rattle.requests.specs.Request as Rq
 use Rattle.requests.specs.Request.{block, plain, want}
 use Rattle.freelist.specs.Segs.{Pairwise}
-use Rattle.freelist.specs.Check as C
-use Rattle.freelist.specs.Link as L
-use Rattle.freelist.specs.Sound as So
 use Rattle.freelist.specs.Sound.{Sound, free, first_of}
 use Rattle.freelist.proofs.Arenas.{sound_iff}
-use Rattle.arena.specs.Take as T
-use Rattle.arena.specs.Give as G
-use Rattle.arena.specs.Rewind as Re
-use Rattle.promise.specs.declared.Call.{Call}
-use Rattle.promise.specs.declared.Call.TheVariants.{Take, Give, Discard, Rewind, SetMinimum, AddDiscarded}
-use Rattle.promise.specs.Calls.{performed}
+use Rattle.calls.specs.declared.Call.{Call}
+use Rattle.calls.specs.declared.Call.TheVariants.{Take, Give, Discard}
+use Rattle.calls.specs.Calls.{performed}
 use Rattle.promise.specs.Runs.{State, Holds, held_after, elsewhere, Allowed, Reached, fresh, call, PastTop, free_in}
 use Rattle.promise.proofs.Holding.{Kept, keeps, hold_only, hold_counters}
 use Rattle.promise.proofs.Cases.{Left, left_quiet}
 use Rattle.promise.proofs.Starts.{fresh_keeps}
 use Rattle.promise.proofs.Grants.{Grants, Fits}
 use Rattle.promise.proofs.DemandThree.{call_left, kept_promise, demand_three}
+use Rattle.promise.proofs.Opened.{opened}
 
 -- a program answers every call on any arena
 abbrev pub Program : Type 0
@@ -113,22 +105,18 @@ abbrev begin : State
 begin = record { header = St.fresh_header 8 0; bytes = replicate 64 0; held = [] }
 
 begin_brought : (p : Program) → Brought p small begin
-unfolding St.setting_up St.policy_of St.data_offset
+unfolding opened
 begin_brought p = begun (record { reserved = 7; unify = false; policy = 1; minimum_segment_size = 0; read_only = false }) begin.header begin.bytes refl refl
 
 -- the sum that is said
 abbrev sum_of : Said → ℕ
-sum_of (granted b) = 0
-sum_of nothing = 0
-sum_of (given_back b) = 0
 sum_of (sum n) = n
-sum_of done = 0
-sum_of (refused n c) = 0
+sum_of _ = 0
 
 -- a program that leaves every header as it was meets no contract
 module _ (p : Program) (leaves-header : (s : Shape) (h : Header) (l : List ℕ) (c : Call) → (p s h l c).header ≡ h) where
   same_header_out : Meets p → ⊥
-  unfolding R.round_up W.splice W.zeroed St.data_offset Hd.head_sound Rq.well_formed Rq.plain Rq.for_nothing Rq.want Rq.top_block Rq.zeroed_from T.from_top T.taking
+  unfolding opened
   same_header_out m =
       let c = Take (Bytes 24) in
       let z : ◌≡◌ {A = ℕ} 8 32 = sym (ap (λ (h : Header). h.allocated) (leaves-header small begin.header begin.bytes c)) ∙ ap (λ (o : Outcome). o.header.allocated) (m small begin.header begin.bytes c) in
@@ -151,17 +139,13 @@ records_nothing_out = same_header_out records_nothing (λ s h l c. refl)
 -- one fixed block each time, where it grants: any block that has a byte
 abbrev always : Block → Said → Said
 always b (granted c) = granted b
-always b nothing = nothing
-always b (given_back x) = given_back x
-always b (sum n) = sum n
-always b done = done
-always b (refused n c) = refused n c
+always b x = x
 
 abbrev pub one_block : Block → Program
 one_block b s h l c = leaves (always b (performed s h l c).says) (performed s h l c).header (performed s h l c).bytes
 
 pub one_block_out : (b : Block) (x : ℕ) → Holds b x → Parts (one_block b) → ⊥
-unfolding R.round_up W.splice W.zeroed St.data_offset Hd.head_sound Rq.well_formed Rq.plain Rq.for_nothing Rq.want Rq.top_block Rq.zeroed_from T.from_top T.taking
+unfolding opened
 one_block_out b x byte m =
     let two = next (Take (Bytes 8)) tt (next (Take (Bytes 8)) tt (begin_brought (one_block b))) in
     (m small _ two).0.0 x byte byte
@@ -173,38 +157,41 @@ taken_by p = left_by p small (left_by p small (left_by p small begin (Take (Byte
 taken_brought : (p : Program) → Brought p small (taken_by p)
 taken_brought p = next (Take (Bytes 16)) tt (next (Take (Bytes 16)) tt (next (Take (Bytes 24)) tt (begin_brought p)))
 
+-- and the first of them given back, by a program that grants them as the contracts do
+abbrev once_by : Program → State
+once_by p = left_by p small (taken_by p) (Give 8 24)
+
+once_brought : (p : Program) → (taken_by p).held ≡ (taken_by performed).held → Brought p small (once_by p)
+unfolding opened
+once_brought p e = next (Give 8 24) (block 8 24 8 24, rw e (Memᴰ.tail (Memᴰ.tail (Memᴰ.head refl))), refl, refl) (taken_brought p)
+
 -- one that records the header and no node's word
 abbrev pub records_no_word : Program
 records_no_word s h l c = leaves (performed s h l c).says (performed s h l c).header l
 
 pub records_no_word_out : Meets records_no_word → ⊥
-unfolding R.round_up W.value_of W.digits W.splice W.word_at W.put_word W.zeroed St.data_offset Hd.head_sound Ru.segment_of Rq.well_formed Rq.plain Rq.for_nothing Rq.want Rq.top_block Rq.zeroed_from C.in_range C.may_follow C.kept C.good_run C.soundb L.link_bytes L.link_head L.insert_bytes L.insert_head So.sound So.free T.from_top T.taking G.put_in G.below_top G.giving_back
+unfolding opened
 records_no_word_out m =
     let z : ◌≡◌ {A = ℕ} 0 16 = ap (λ (o : Outcome). get_or o.bytes 12 0) (m small (taken_by performed).header (taken_by performed).bytes (Give 8 24)) in
     omega arith
 
 -- one that manages its list only for the first give-back, and does something else with later ones
 abbrev first_and : (Shape → Header → List ℕ → ℕ → ℕ → Outcome) → Program
-first_and later s h l (Take r) = performed s h l (Take r)
 first_and later s h l (Give offset size) = pick (eqb (length (free s h l)) 0) (performed s h l (Give offset size)) (later s h l offset size)
-first_and later s h l Discard = performed s h l Discard
-first_and later s h l (Rewind p) = performed s h l (Rewind p)
-first_and later s h l (SetMinimum n) = performed s h l (SetMinimum n)
-first_and later s h l (AddDiscarded n) = performed s h l (AddDiscarded n)
+first_and later s h l c = performed s h l c
 
 -- they stand in front, whatever their size
-abbrev front : Header → List ℕ → ℕ → Segment → Outcome
+abbrev front : Header → List ℕ → ℕ → Option Segment → Outcome
 front h l size Refused = leaves (given_back false) (losing h size) l
-front h l size (At p n) = leaves (given_back true) (losing (with_first h p) 8) (W.put_word l p (W.node_word n (first_of h)))
+front h l size (Some q) = leaves (given_back true) (losing (with_first h q.offset) 8) (W.put_word l q.offset (W.node_word q.size (first_of h)))
 
 abbrev pub first_only : Program
 first_only = first_and (λ s h l offset size. front h l size (Ru.segment_of h.minimum_segment_size offset size))
 
 pub first_only_out : Sounds first_only → ⊥
-unfolding R.round_up W.value_of W.digits W.splice W.word_at W.put_word W.zeroed St.data_offset Hd.head_sound Ru.segment_of Rq.well_formed Rq.plain Rq.for_nothing Rq.want Rq.top_block Rq.zeroed_from C.in_range C.may_follow C.kept C.good_run C.soundb L.link_bytes L.link_head L.insert_bytes L.insert_head So.sound So.free T.from_top T.taking G.put_in G.below_top G.giving_back
+unfolding opened
 first_only_out m =
-    let once = next (Give 8 24) (block 8 24 8 24, Memᴰ.tail (Memᴰ.tail (Memᴰ.head refl)), refl, refl) (taken_brought first_only) in
-    let twice = next (Give 32 16) (block 32 16 32 16, Memᴰ.tail (Memᴰ.head refl), refl, refl) once in
+    let twice = next (Give 32 16) (block 32 16 32 16, Memᴰ.tail (Memᴰ.head refl), refl, refl) (once_brought first_only refl) in
     false≢true ((sound_iff _ _ _).1 (m small _ twice))
 
 -- or, below the top, they are answered true and counted as discarded, with no node: its own runs stay sound; the exact answers and headers of demand 2 shut it out
@@ -213,16 +200,12 @@ first_then_loses =
     first_and (λ s h l offset size. pick (eqb (offset + size) h.allocated) (performed s h l (Give offset size)) (leaves (given_back true) (losing h size) l))
 
 first_then_loses_left : {s : Shape} {st : State} → Kept s st → (c : Call) → Allowed st c → Left s st c (first_then_loses s st.header st.bytes c)
-first_then_loses_left k (Take r) a = call_left k (Take r) a
 first_then_loses_left {s} {st} k (Give offset size) a =
     let c = Give offset size in
     let lost = hold_counters (hold_only k.holding (elsewhere offset)) (losing st.header size) refl refl in
     pick_either (Left s st c) (eqb (length (free_in s st)) 0) _ _ (λ _. call_left k c a)
     (λ _. pick_either (Left s st c) (eqb (offset + size) st.header.allocated) _ _ (λ _. call_left k c a) (λ _. left_quiet k c (given_back true) _ (keeps k.writable lost)))
-first_then_loses_left k Discard a = call_left k Discard a
-first_then_loses_left k (Rewind p) a = call_left k (Rewind p) a
-first_then_loses_left k (SetMinimum n) a = call_left k (SetMinimum n) a
-first_then_loses_left k (AddDiscarded n) a = call_left k (AddDiscarded n) a
+first_then_loses_left k c a = call_left k c a
 
 first_then_loses_kept : (s : Shape) {st : State} → Brought first_then_loses s st → Kept s st
 first_then_loses_kept s (begun settings h l e w) = fresh_keeps s settings h l e w
@@ -232,56 +215,45 @@ pub first_then_loses_sounds : Sounds first_then_loses
 first_then_loses_sounds s st b = (kept_promise (first_then_loses_kept s b)).is_sound
 
 pub first_then_loses_out : Meets first_then_loses → ⊥
-unfolding R.round_up W.value_of W.digits W.splice W.word_at W.put_word W.zeroed St.data_offset Hd.head_sound Ru.segment_of Rq.well_formed Rq.plain Rq.for_nothing Rq.want Rq.top_block Rq.zeroed_from C.in_range C.may_follow C.kept C.good_run C.soundb L.link_bytes L.link_head L.insert_bytes L.insert_head So.sound So.free T.from_top T.taking G.put_in G.below_top G.giving_back
+unfolding opened
 first_then_loses_out m =
-    let once = left_by performed small (taken_by performed) (Give 8 24) in
+    let once = once_by performed in
     let z : ◌≡◌ {A = ℕ} 24 16 = ap (λ (o : Outcome). o.header.discarded) (m small once.header once.bytes (Give 32 16)) in
     omega arith
 
 -- one that refuses everything past the top
 abbrev pub refuses_past : Program
 refuses_past s h l (Take r) = pick (ltb s.cap (want h.allocated (plain r))) (refuses 9 [] h l) (performed s h l (Take r))
-refuses_past s h l (Give offset size) = performed s h l (Give offset size)
-refuses_past s h l Discard = performed s h l Discard
-refuses_past s h l (Rewind p) = performed s h l (Rewind p)
-refuses_past s h l (SetMinimum n) = performed s h l (SetMinimum n)
-refuses_past s h l (AddDiscarded n) = performed s h l (AddDiscarded n)
+refuses_past s h l c = performed s h l c
 
 -- one that refuses 10 bytes past the top where some segment has room for them is out
-refusing_out : (p : Program) (st : State) (n : ℕ) (carried : List ℕ) → (p small st.header st.bytes (Take (Bytes 10))).says ≡ refused n carried
-    → PastTop small st (Bytes 10) → Fits small st (Bytes 10) → GrantsIn p small st → ⊥
-refusing_out p st n carried answer past fits m =
+refusing_out : (p : Program) (n : ℕ) (carried : List ℕ) → (p small (once_by performed).header (once_by performed).bytes (Take (Bytes 10))).says ≡ refused n carried
+    → GrantsIn p small (once_by performed) → ⊥
+unfolding opened
+refusing_out p n carried answer m =
     let ordered : ◌≡◌ {A = Policy} (Ordered Optimistic) None → ⊥ = λ e. false≢true cc in
-    let b = (m (Bytes 10) past ordered).1 fits in
+    let b = (m (Bytes 10) (record { formed = refl; some = refl; past = omega arith }) ordered).1 (record { offset = 8; size = 16 }, Memᴰ.head refl, omega arith) in
     false≢true (cc (answer, b.1))
 
 pub refuses_past_out : GrantsExactly refuses_past → ⊥
-unfolding R.round_up W.value_of W.digits W.splice W.word_at W.put_word W.zeroed St.data_offset Hd.head_sound Ru.segment_of Rq.well_formed Rq.plain Rq.for_nothing Rq.want Rq.need Rq.top_block Rq.zeroed_from C.in_range C.may_follow C.kept C.good_run C.soundb L.link_bytes L.link_head L.insert_bytes L.insert_head So.sound So.free T.from_top T.taking G.put_in G.below_top G.giving_back
-refuses_past_out m =
-    let once = next (Give 8 24) (block 8 24 8 24, Memᴰ.tail (Memᴰ.tail (Memᴰ.head refl)), refl, refl) (taken_brought refuses_past) in
-    refusing_out refuses_past _ 9 [] refl (record { formed = refl; some = refl; past = omega arith }) (record { offset = 8; size = 16 }, Memᴰ.head refl, omega arith) (m small _ once)
+unfolding opened
+refuses_past_out m = refusing_out refuses_past 9 [] refl (m small _ (once_brought refuses_past refl))
 
 -- so is one that refuses everything, at the state that the contracts lead to by the same calls
 pub refuses_all_grants_out : GrantsWhereReached refuses_all → ⊥
-unfolding R.round_up W.value_of W.digits W.splice W.word_at W.put_word W.zeroed St.data_offset Hd.head_sound Ru.segment_of Rq.well_formed Rq.plain Rq.for_nothing Rq.want Rq.need Rq.top_block Rq.zeroed_from C.in_range C.may_follow C.kept C.good_run C.soundb L.link_bytes L.link_head L.insert_bytes L.insert_head So.sound So.free T.from_top T.taking G.put_in G.below_top G.giving_back
-refuses_all_grants_out m =
-    let once = next (Give 8 24) (block 8 24 8 24, Memᴰ.tail (Memᴰ.tail (Memᴰ.head refl)), refl, refl) (taken_brought performed) in
-    refusing_out refuses_all _ 1 [] refl (record { formed = refl; some = refl; past = omega arith }) (record { offset = 8; size = 16 }, Memᴰ.head refl, omega arith) (m small _ (brought_reached small once))
+unfolding opened
+refuses_all_grants_out m = refusing_out refuses_all 1 [] refl (m small _ (brought_reached small (once_brought performed refl)))
 
 -- an invented discard sum
 abbrev invented : Said → Said
-invented (granted b) = granted b
-invented nothing = nothing
-invented (given_back b) = given_back b
 invented (sum n) = sum (n + 1)
-invented done = done
-invented (refused n c) = refused n c
+invented x = x
 
 abbrev pub invents_sum : Program
 invents_sum s h l c = leaves (invented (performed s h l c).says) (performed s h l c).header (performed s h l c).bytes
 
 pub invents_sum_out : Meets invents_sum → ⊥
-unfolding W.word_at St.data_offset Hd.head_sound C.kept C.good_run C.soundb So.sound So.free Re.discarding
+unfolding opened
 invents_sum_out m = let z : ◌≡◌ {A = ℕ} 1 0 = ap (λ (o : Outcome). sum_of o.says) (m small begin.header begin.bytes Discard) in omega arith
 
 -- an invented count of discarded bytes
@@ -289,5 +261,5 @@ abbrev pub invents_count : Program
 invents_count s h l c = leaves (performed s h l c).says (losing (performed s h l c).header 1) (performed s h l c).bytes
 
 pub invents_count_out : Meets invents_count → ⊥
-unfolding W.word_at St.data_offset Hd.head_sound C.kept C.good_run C.soundb So.sound So.free Re.discarding
+unfolding opened
 invents_count_out m = let z : ◌≡◌ {A = ℕ} 1 0 = ap (λ (o : Outcome). o.header.discarded) (m small begin.header begin.bytes Discard) in omega arith

@@ -1,3 +1,2 @@
 -- Statements over whole days of calls.
-pub mod Calls
 pub mod Runs

@@ -1,7 +1,7 @@
 -- Demand 3 of the request: what holds after any calls of callers who keep to their blocks.
 use Rattle.std.specs.Prelude.{ℕ, ◌+◌, ◌≤◌, ◌<◌, ◌≡◌, Bool, true, false, ◌&&◌, not, ◌⊎◌, ◌↔◌, leb, eqb, length, get_or}
+use Rattle.std.specs.List.{filter}
 use mathlib.Core.List.{List, [], ◌∷◌, Memᴰ}
-use Rattle.words.specs.Pick.{pick}
 use Rattle.records.specs.Answer.{Said, granted, nothing, given_back, sum, done, refused, ready}
 use Rattle.records.specs.Setup.{setting_up}
 use Rattle.records.specs.declared.Order.TheVariants.{Optimistic, Pessimistic}
@@ -12,12 +12,13 @@ use Rattle.records.specs.declared.Shape.{Shape}
 use Rattle.records.specs.declared.Header.{Header}
 use Rattle.records.specs.declared.Block.{Block}
 use Rattle.records.specs.declared.Request.{Request}
+use Rattle.records.specs.declared.Segment.{Segment}
 use Rattle.requests.specs.Request.{well_formed, plain, for_nothing, want, need}
-use Rattle.freelist.specs.Segs.{Seg, Covers, Pairwise}
+use Rattle.freelist.specs.Segs.{Covers, Pairwise}
 use Rattle.freelist.specs.Sound.{Sound, free}
-use Rattle.promise.specs.declared.Call.{Call}
-use Rattle.promise.specs.declared.Call.TheVariants.{Take, Give, Discard, Rewind, SetMinimum, AddDiscarded}
-use Rattle.promise.specs.Calls.{performed}
+use Rattle.calls.specs.declared.Call.{Call}
+use Rattle.calls.specs.declared.Call.TheVariants.{Take, Give, Discard, Rewind, SetMinimum, AddDiscarded}
+use Rattle.calls.specs.Calls.{performed}
 
 -- the byte x is one of the n from offset on
 abbrev pub Within : ℕ → ℕ → ℕ → Type 0
@@ -39,8 +40,7 @@ pub record State : Type 0 where
 
 -- the members that pass a test
 abbrev pub only : (Block → Bool) → List Block → List Block
-only f [] = []
-only f (b ∷ bs) = let rest = only f bs in pick (f b) (b ∷ rest) rest
+only = filter
 
 -- 01: blocks whose bytes pass the new top are held no more
 abbrev pub ends_by : ℕ → Block → Bool
@@ -104,13 +104,13 @@ pub data Reached (s : Shape) : State → Type 0 where
   write : {st : State} (l : List ℕ) → Written st l → Reached s st → Reached s (record { header = st.header; bytes = l; held = st.held })
 
 -- demand 3: the optimistic list takes a largest, the pessimistic a smallest that fits, as a search of all segments that ignores list order would choose
-abbrev pub Best : Policy → ℕ → Seg → List Seg → Type 0
+abbrev pub Best : Policy → ℕ → Segment → List Segment → Type 0
 Best None n g gs = ⊥
-Best (Ordered Optimistic) n g gs = (f : Seg) → Memᴰ f gs → f.size ≤ g.size
-Best (Ordered Pessimistic) n g gs = (f : Seg) → Memᴰ f gs → n ≤ f.size → g.size ≤ f.size
+Best (Ordered Optimistic) n g gs = (f : Segment) → Memᴰ f gs → f.size ≤ g.size
+Best (Ordered Pessimistic) n g gs = (f : Segment) → Memᴰ f gs → n ≤ f.size → g.size ≤ f.size
 
 -- the free segments of a state
-abbrev pub free_in : Shape → State → List Seg
+abbrev pub free_in : Shape → State → List Segment
 free_in s st = free s st.header st.bytes
 
 -- a request that the top can't meet, well-formed and for something
@@ -126,13 +126,13 @@ pub record Promise (s : Shape) (st : State) : Type 0 where
   -- held blocks share no byte
   pub held_apart : Pairwise (λ a b. (x : ℕ) → Holds a x → Holds b x → ⊥) st.held
   -- held blocks and free segments share no byte
-  pub free_apart : (b : Block) (g : Seg) → Memᴰ b st.held → Memᴰ g (free_in s st) → (x : ℕ) → Holds b x → Covers g x → ⊥
+  pub free_apart : (b : Block) (g : Segment) → Memᴰ b st.held → Memᴰ g (free_in s st) → (x : ℕ) → Holds b x → Covers g x → ⊥
   -- no give-back of a held block is refused
   pub taken_back : (b : Block) → Memᴰ b st.held →
       (x : Bool) × ((performed s st.header st.bytes (Give b.memory_offset b.memory_size)).says ≡ given_back x)
   -- such a request is granted exactly if some free segment's data size is at least its need
   pub grants : (r : Request) → PastTop s st r → (s.policy ≡ None → ⊥) →
-      ((b : Block) × ((performed s st.header st.bytes (Take r)).says ≡ granted b)) ↔ ((g : Seg) × Memᴰ g (free_in s st) × (need (plain r) ≤ g.size))
+      ((b : Block) × ((performed s st.header st.bytes (Take r)).says ≡ granted b)) ↔ ((g : Segment) × Memᴰ g (free_in s st) × (need (plain r) ≤ g.size))
   -- and the segment taken is a best one
   pub chooses : (r : Request) (b : Block) → PastTop s st r → (performed s st.header st.bytes (Take r)).says ≡ granted b →
-      (g : Seg) × Memᴰ g (free_in s st) × (b.memory_offset ≡ g.offset) × (need (plain r) ≤ g.size) × Best s.policy (need (plain r)) g (free_in s st)
+      (g : Segment) × Memᴰ g (free_in s st) × (b.memory_offset ≡ g.offset) × (need (plain r) ≤ g.size) × Best s.policy (need (plain r)) g (free_in s st)

@@ -12,7 +12,7 @@ use denote.Triple.Clauses.{Ended, Clauses, AtExit, closing}
 use denote.Triple.Entry.{Args, Res}
 use denote.Triple.Spec.{Meets}
 use Rattle.records.specs.declared.Request.TheVariants.{Bytes}
-use Rattle.promise.specs.declared.Call.TheVariants.{Take, Give, Rewind}
+use Rattle.calls.specs.declared.Call.TheVariants.{Take, Give, Rewind}
 use Rattle.lent.specs.contracts.alloc_bytes as alloc_bytes
 use Rattle.lent.specs.contracts.dealloc as dealloc
 use Rattle.lent.specs.contracts.rewind as rewind

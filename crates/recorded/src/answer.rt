@@ -1,59 +1,47 @@
 // Our answer as the list writes it.
-ghost use Rattle.std.specs.Prelude.{◌≤◌, ◌<◌, length};
-
-use records::{Answer, Header, Shape};
-use trace::{Call, Kept};
+use records::Arena;
+use std::fmt;
+use std::fmt::Write;
+use trace::Counters;
 
 // s = (s * 31 + byte) mod 2^32, from 0, over the bytes in order.
-fn checksum(bytes: &[u8]) -> u64
-    ensures { result < 4294967296 }
-{
-    let mut sum: u64 = 0;
-    let mut i: usize = 0;
-    while i < bytes.len() {
-        sum = (sum * 31 + bytes[i] as u64) % 4294967296;
-        i += 1;
+fn checksum(bytes: &[u8]) -> u32 {
+    bytes.iter().fold(0, |sum: u32, b| {
+        sum.wrapping_mul(31).wrapping_add(u32::from(*b))
+    })
+}
+
+// What stands after the call: what is said, and what the arena over these bytes then holds, with the sum over the bytes
+// from the data offset up.
+#[derive(Drop)]
+pub struct Ours<'a, S> {
+    pub said: S,
+    pub arena: Arena,
+    pub buf: &'a [u8],
+}
+
+impl<S: fmt::Display> fmt::Display for Ours<'_, S> {
+    fn fmt<W: fmt::Write>(&self, f: &mut fmt::Formatter<W>) -> fmt::Result {
+        let Arena { shape, header } = self.arena;
+        let data = self.buf.get(shape.data_offset as usize..).unwrap_or(&[]);
+        write!(f, " -> {}{}", self.said, Counters(header))?;
+        write!(f, " sentinel={} sum={}", header.sentinel, checksum(data))
     }
-    sum
 }
 
-// The sum over the bytes from `from` up.
-fn sum_from(buf: &[u8], from: usize) -> u64 {
-    if buf.len() < from {
-        return 0;
+// What is still expected of the bytes that are written.
+#[derive(Drop)]
+struct Expected<'a>(&'a [u8]);
+
+impl fmt::Write for Expected<'_> {
+    fn write_str(&mut self, s: &str) -> fmt::Result {
+        self.0 = self.0.strip_prefix(s.as_bytes()).ok_or(fmt::Error)?;
+        Ok(())
     }
-    checksum(&buf[from..])
 }
 
-// What the arena holds.
-fn put_state(out: &mut [u8], at: usize, shape: Shape, header: Header, buf: &[u8]) -> usize
-    ensures { result ≤ length out.old }
-{
-    let counted = trace::put_counters(out, at, header);
-    let sum = sum_from(buf, shape.data_offset as usize);
-    trace::put_pair(out, counted, b" sentinel=", header.sentinel, b" sum=", sum)
-}
-
-// A call's answer, after the arrow.
-pub fn put_reply(
-    out: &mut [u8],
-    call: Call,
-    answer: Answer,
-    shape: Shape,
-    header: Header,
-    buf: &[u8],
-) -> usize
-    ensures { result ≤ length out.old }
-{
-    let arrow = trace::put(out, 0, b" -> ");
-    let said = trace::put_answer(out, arrow, call, answer, Kept::Unnamed);
-    put_state(out, said, shape, header, buf)
-}
-
-// That a caller's write is done, after the arrow.
-pub fn put_written(out: &mut [u8], shape: Shape, header: Header, buf: &[u8]) -> usize
-    ensures { result ≤ length out.old }
-{
-    let said = trace::put(out, 0, b" -> answer=done");
-    put_state(out, said, shape, header, buf)
+// Whether the bytes are the text.
+pub fn is_written(text: &impl fmt::Display, bytes: &[u8]) -> bool {
+    let mut expected = Expected(bytes);
+    write!(expected, "{text}").is_ok() && expected.0.is_empty()
 }

@@ -7,43 +7,21 @@
 // that are counted were compared.
 #![tactic(auto)]
 
-ghost use Rattle.std.specs.Prelude.{◌≡◌, ◌≤◌, length, IfOk};
-
 mod answer;
 mod replay;
 mod tally;
 
 use std::io;
+use std::io::Read;
 
-// Reads until `text` is full or the input ends, and answers how many bytes it put at the start of `text`.
-fn read_full<R: io::Read>(input: &mut R, text: &mut [u8]) -> io::Result<usize>
-    ensures { IfOk result (λ n. n ≤ length text.new) }
-{
-    let mut done = 0;
-    while done < text.len() {
-        let n = input.read(&mut text[done..])?;
-        if n == 0 {
-            break;
-        }
-        done += n;
-    }
-    Ok(done)
-}
-
-// Room for the list. The `ensures` gives only the length, which lending the array as a slice needs.
-fn room() -> [u8; 524288]
-    ensures { 524288 ≡ length result }
-{
-    [0; 524288]
-}
+// A list is shorter than this. It is read into an array: nothing is on a heap.
+const ROOM: usize = 524288;
 
 fn main(rt: HostRuntime) -> io::Result<()> {
-    let mut text = room();
-    let n = read_full(&mut rt.stdin(), &mut text)?;
-    if n == 524288 {
-        return rt.write_all(b"the list is too long\n");
+    let mut text = [0; ROOM];
+    let n = io::copy(&mut rt.stdin().take(ROOM as u64), &mut text.as_mut_slice())? as usize;
+    match text.get(..n) {
+        Some(list) if n < ROOM => replay::all(&rt, list)?.report(&rt),
+        _ => rt.write_all(b"the list is too long\n"),
     }
-    let mut buf = [0u8; 4096];
-    let tally = replay::all(&rt, &text[..n], &mut buf)?;
-    tally::report(&rt, tally)
 }

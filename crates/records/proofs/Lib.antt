@@ -1,4 +1,3 @@
 -- Laws that belong to no one function.
 pub mod Facts
 pub mod Rules
-pub mod Parts

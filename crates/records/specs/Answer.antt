@@ -1,13 +1,14 @@
 -- What calls say, in document 01's numbers: 'What each call says no with'.
-use Rattle.std.specs.Prelude.{ℕ, Bool, List, [], ◌∷◌}
+use Rattle.std.specs.Prelude.{ℕ, Bool, List, [], ◌∷◌, Option, Some, None, Result, Ok, Err}
 use Rattle.records.specs.declared.Shape.{Shape}
 use Rattle.records.specs.declared.Header.{Header}
 use Rattle.records.specs.declared.Block.{Block}
 use Rattle.records.specs.declared.Answer.{Answer}
 use Rattle.records.specs.declared.Answer.TheVariants.{Granted, Nothing, GivenBack, Sum, Done, ReadOnly, Damaged, BadLayout, OutOfBounds, Overlap, CutsFreeList, InsufficientSpace}
 use Rattle.records.specs.declared.Reply.{Reply}
-use Rattle.records.specs.declared.Begun.{Begun}
-use Rattle.records.specs.declared.Begun.TheVariants.{Ready, UnknownFreelist, BadSetup}
+use Rattle.records.specs.declared.Arena.{Arena}
+use Rattle.records.specs.declared.SetupError.{SetupError}
+use Rattle.records.specs.declared.SetupError.TheVariants.{UnknownFreelist, BadSetup}
 
 -- what a call says: a block, nothing, whether a range was taken back, a sum, that it is done, or a refusal's number and what it carries
 pub data Said : Type 0 where
@@ -33,6 +34,11 @@ said Overlap = refused 7 []
 said CutsFreeList = refused 8 []
 said (InsufficientSpace requested available) = refused 9 (requested ∷ available ∷ [])
 
+-- the number that a refusal has, and none for any other answer
+abbrev pub number_of : Said → Option ℕ
+number_of (refused number carried) = Some number
+number_of _ = None
+
 -- all that a call leaves: what it says, the header and every byte
 pub record Outcome : Type 0 where
   pub says : Said
@@ -54,7 +60,7 @@ pub data Began : Type 0 where
   ready : Shape → Header → Began
   unready : ℕ → Began
 
-abbrev pub began : Begun → Began
-began (Ready a) = ready a.shape a.header
-began UnknownFreelist = unready 2
-began BadSetup = unready 3
+abbrev pub began : Result Arena SetupError → Began
+began (Ok a) = ready a.shape a.header
+began (Err UnknownFreelist) = unready 2
+began (Err BadSetup) = unready 3

@@ -1,8 +1,19 @@
 -- The parts of the buffer that are handed out. Document 01, 'Taking room', its last paragraph.
-use Rattle.std.specs.Prelude.{ℕ, ◌+◌, List, [], leb, length, take, drop}
+use Rattle.std.specs.Prelude.{ℕ, ◌+◌, ◌≤◌, ◌≡◌, List, [], leb, length, take, drop}
+use Rattle.std.specs.declared.ops.Range.{Range}
 use Rattle.words.specs.Pick.{pick}
 use Rattle.records.specs.declared.Shape.{Shape}
 use Rattle.records.specs.declared.Block.{Block}
+
+-- the range of n bytes from at, and of none, at the start, where they leave a buffer of len bytes
+abbrev pub range_within : ℕ → ℕ → ℕ → Range ℕ
+range_within len at n = pick (leb (at + n) len) (record { start = at; end = at + n }) (record { start = 0; end = 0 })
+
+-- what the code says of that range: the value, and the bounds that follow from it
+pub record Within (len at n : ℕ) (r : Range ℕ) : Type 0 where
+  pub is : r ≡ range_within len at n
+  pub ordered : r.start ≤ r.end
+  pub inside : r.end ≤ len
 
 -- n bytes from at; 01: a record whose range leaves the buffer gives an empty part
 unfoldable pub part_of : List ℕ → ℕ → ℕ → List ℕ

@@ -1,5 +1,5 @@
 -- Setup. Document 01, 'Numbers that bound it' and refusals 2 and 3.
-use Rattle.std.specs.Prelude.{ℕ, ◌+◌, ◌≤◌, ◌<◌, ◌≡◌, Bool, false, ◌||◌, ltb, eqb}
+use Rattle.std.specs.Prelude.{ℕ, ◌+◌, ◌≤◌, ◌<◌, ◌≡◌, Bool, false, ◌||◌, ltb, eqb, Result, Ok, Err}
 use Rattle.words.specs.Round.{round_up}
 use Rattle.words.specs.Word.{node_word, end_mark}
 use Rattle.words.specs.Pick.{pick}
@@ -7,8 +7,7 @@ use Rattle.records.specs.Answer.{Began, ready, unready}
 use Rattle.records.specs.declared.Order.TheVariants.{Optimistic, Pessimistic}
 use Rattle.records.specs.declared.Policy.{Policy}
 use Rattle.records.specs.declared.Policy.TheVariants.{None, Ordered}
-use Rattle.records.specs.declared.Named.{Named}
-use Rattle.records.specs.declared.Named.TheVariants.{Known, Unknown}
+use Rattle.records.specs.declared.UnknownFreelist.{UnknownFreelist}
 use Rattle.records.specs.declared.Settings.{Settings}
 use Rattle.records.specs.declared.Shape.{Shape}
 use Rattle.records.specs.declared.Header.{Header}
@@ -28,8 +27,14 @@ pub record Offset (reserved : ℕ) (unify : Bool) (r : ℕ) : Type 0 where
   pub high : r ≤ reserved + 40
 
 -- the policies by their codes: none 0, optimistic 1, pessimistic 2
-unfoldable pub policy_of : ℕ → Named
-policy_of code = pick (eqb code 0) (Known None) (pick (eqb code 1) (Known (Ordered Optimistic)) (pick (eqb code 2) (Known (Ordered Pessimistic)) Unknown))
+unfoldable pub policy_of : ℕ → Result Policy UnknownFreelist
+policy_of code = pick (eqb code 0) (Ok None) (pick (eqb code 1) (Ok (Ordered Optimistic)) (pick (eqb code 2) (Ok (Ordered Pessimistic)) (Err (record {}))))
+
+-- the policy's code, the inverse of policy_of
+abbrev pub code_of : Policy → ℕ
+code_of None = 0
+code_of (Ordered Optimistic) = 1
+code_of (Ordered Pessimistic) = 2
 
 -- 01: defaults: optimistic list, minimum segment size 20, reserved 0, unify off
 abbrev pub default_settings : Settings
@@ -53,9 +58,9 @@ fresh_header start least =
     record { sentinel = node_word end_mark end_mark; allocated = start; minimum_segment_size = least; discarded = 0 }
 
 -- 01: 2 is given for a policy code other than 0, 1, 2; then 3 for cap over the limit, or data offset > cap
-abbrev pub setting_up_by : Named → Settings → ℕ → Began
-setting_up_by Unknown s cap = unready 2
-setting_up_by (Known f) s cap =
+abbrev pub setting_up_by : Result Policy UnknownFreelist → Settings → ℕ → Began
+setting_up_by (Err e) s cap = unready 2
+setting_up_by (Ok f) s cap =
     pick (ltb limit cap || ltb cap (data_offset s.reserved s.unify)) (unready 3)
     (ready (shape_of s cap f) (fresh_header (data_offset s.reserved s.unify) s.minimum_segment_size))
 

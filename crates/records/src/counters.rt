@@ -7,28 +7,26 @@ use crate::{Header, Shape};
 pub fn remaining(shape: Shape, header: Header) -> u32
     ensures { result ≡ shape.cap - header.allocated }
 {
-    if shape.cap < header.allocated {
-        0
-    } else {
-        shape.cap - header.allocated
-    }
+    shape.cap.saturating_sub(header.allocated)
 }
 
 // The counters, as they stand.
-pub fn allocated(header: Header) -> u32
-    ensures { result ≡ header.allocated }
-{
-    header.allocated
-}
+impl Header {
+    pub fn allocated(self) -> u32
+        ensures { result ≡ self.allocated }
+    {
+        self.allocated
+    }
 
-pub fn discarded(header: Header) -> u32
-    ensures { result ≡ header.discarded }
-{
-    header.discarded
-}
+    pub fn discarded(self) -> u32
+        ensures { result ≡ self.discarded }
+    {
+        self.discarded
+    }
 
-pub fn minimum_segment_size(header: Header) -> u32
-    ensures { result ≡ header.minimum_segment_size }
-{
-    header.minimum_segment_size
+    pub fn minimum_segment_size(self) -> u32
+        ensures { result ≡ self.minimum_segment_size }
+    {
+        self.minimum_segment_size
+    }
 }

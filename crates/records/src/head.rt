@@ -6,23 +6,13 @@ use crate::set_up::data_offset;
 use crate::{Header, LIMIT, Shape};
 
 // Whether the head is sound over this buffer.
+#[tactic(auto, unfolding(crate::specs::Head::head_sound))]
 pub fn head_sound(shape: Shape, header: Header, buf: &[u8]) -> bool
     ensures { result ≡ head_sound shape header (length buf.now) }
 {
-    if shape.cap as usize != buf.len() {
-        return false;
-    }
-    if LIMIT < shape.cap {
-        return false;
-    }
-    if shape.data_offset as usize != data_offset(shape.reserved, shape.unify) {
-        return false;
-    }
-    if header.allocated < shape.data_offset {
-        return false;
-    }
-    if shape.cap < header.allocated {
-        return false;
-    }
-    true
+    shape.cap as usize == buf.len()
+        && shape.cap <= LIMIT
+        && shape.data_offset as usize == data_offset(shape.reserved, shape.unify)
+        && shape.data_offset <= header.allocated
+        && header.allocated <= shape.cap
 }

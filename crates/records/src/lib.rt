@@ -1,21 +1,22 @@
-// The arena's records. What is asked of them on numbers alone stands in a module beside its definitions in specs/: set_up,
-// head, rule (of segments), change (of a header), part (of the buffer); and counters, their readers. `said` of specs/Answer
-// gives document 01's number and values for each answer. The list in the bytes is the crate above.
+// The arena's records. What is asked of them stands in a module beside its definitions in specs/: set_up (with policies' codes),
+// head, rule (of segments), change (of a header), part (of the buffer); refusals, their numbers; and counters, their readers.
+// `said` and `began` of specs/Answer give document 01's number and values for each answer. The list in the bytes is the crate
+// above. Debug and comparison are derived for errors alone: no crate compares or prints the other types whole.
 #![tactic(auto)]
 
 mod change;
 mod counters;
 mod head;
 mod part;
+mod refusals;
 mod rule;
 mod set_up;
 
-pub use change::{first_of, lose, with_first, with_minimum, with_top};
-pub use counters::{allocated, discarded, minimum_segment_size, remaining};
+pub use counters::remaining;
 pub use head::head_sound;
 pub use part::{bytes, bytes_mut, reserved_slice};
 pub use rule::segment_of;
-pub use set_up::{data_offset, defaults, policy_of, setup};
+pub use set_up::{data_offset, setup};
 
 // The largest buffer, size and extra.
 pub const LIMIT: u32 = 1073741824;
@@ -29,7 +30,7 @@ pub enum Order {
     Pessimistic,
 }
 
-// The policy. What the two lists share is written once, over the order.
+// The policy. What the two lists share is written once, over the order. No Option: the conversions from and to a code are its own.
 #[derive(Clone, Copy)]
 pub enum Policy {
     // No list: what is given back below the top is lost.
@@ -37,12 +38,9 @@ pub enum Policy {
     Ordered(Order),
 }
 
-// What a policy code names.
-#[derive(Clone, Copy)]
-pub enum Named {
-    Known(Policy),
-    Unknown,
-}
+// A code that names no policy.
+#[derive(Clone, Copy, Debug, PartialEq, Eq)]
+pub struct UnknownFreelist;
 
 // What setup is asked for. The capacity is the buffer's length.
 #[derive(Clone, Copy)]
@@ -52,7 +50,7 @@ pub struct Settings {
     // Whether the data starts where it would with the header in the buffer: at reserved, rounded up to 8, + 32. Else at
     // reserved + 1.
     pub unify: bool,
-    // 0 none, 1 optimistic, 2 pessimistic.
+    // A code and no `Policy`, since setup may be asked for any and refuses others: 0 none, 1 optimistic, 2 pessimistic.
     pub policy: u8,
     // The least data size of a segment when it is made.
     pub minimum_segment_size: u32,
@@ -91,11 +89,9 @@ pub struct Arena {
     pub header: Header,
 }
 
-// What setup answers.
-#[derive(Clone, Copy)]
-pub enum Begun {
-    // A fresh arena.
-    Ready(Arena),
+// Why setup gives no arena.
+#[derive(Clone, Copy, Debug, PartialEq, Eq)]
+pub enum SetupError {
     // Refusal 2: the policy code is none of 0, 1, 2.
     UnknownFreelist,
     // Refusal 3: the buffer is over the limit, or ends before the data offset.
@@ -135,8 +131,8 @@ pub enum Position {
     End(u32),
 }
 
-// What a call answers. A refusal changed neither the header nor a byte. `said` in specs/ gives document 01's number and
-// values for each case.
+// What a call answers: one enum and no Result, in the form that document 01 names. A refusal changed neither the header nor a
+// byte. `said` in specs/ gives document 01's number and values for each case.
 #[derive(Clone, Copy)]
 pub enum Answer {
     // A request: the block that it has.
@@ -172,9 +168,9 @@ pub struct Reply {
     pub header: Header,
 }
 
-// What the segment rule makes of a range: a node at `offset` with `size` bytes of data, or nothing.
+// A segment: a node at `offset`, and `size` bytes of data after it.
 #[derive(Clone, Copy)]
-pub enum Segment {
-    At { offset: usize, size: usize },
-    Refused,
+pub struct Segment {
+    pub offset: usize,
+    pub size: usize,
 }

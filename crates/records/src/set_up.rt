@@ -1,11 +1,13 @@
 // Setup: where the data starts, what a policy code names, the defaults, and a fresh arena.
 ghost use Rattle.std.specs.Prelude.{◌≡◌, length};
-ghost use Rattle.records.specs.Setup.{Offset, policy_of, default_settings, setting_up};
+ghost use Rattle.records.specs.Setup.{Offset, policy_of, code_of, default_settings, setting_up};
 ghost use Rattle.records.specs.Answer.{began};
+ghost use Rattle.records.specs.declared.SetupError.TheVariants.{UnknownFreelist};
 
-use crate::{Arena, Begun, Header, LIMIT, Named, Order, Policy, Settings, Shape};
+use crate::{Arena, Header, LIMIT, Order, Policy, Settings, SetupError, Shape, UnknownFreelist};
 
 // Where the data starts. Wider than the field that keeps it: setup refuses what does not fit.
+#[tactic(auto, unfolding(crate::specs::Setup::data_offset))]
 pub fn data_offset(reserved: u32, unify: bool) -> usize
     ensures { Offset reserved unify result }
 {
@@ -18,48 +20,69 @@ pub fn data_offset(reserved: u32, unify: bool) -> usize
 }
 
 // The policy that a code names.
-pub fn policy_of(code: u8) -> Named
-    ensures { result ≡ policy_of code }
-{
-    if code == 0 {
-        return Named::Known(Policy::None);
+impl TryFrom<u8> for Policy {
+    type Error = UnknownFreelist;
+
+    ghost try_from_gives = { λ code r. r ≡ policy_of code };
+
+    #[tactic(auto, unfolding(crate::specs::Setup::policy_of))]
+    fn try_from(code: u8) -> Result<Policy, UnknownFreelist> {
+        match code {
+            0 => Ok(Policy::None),
+            1 => Ok(Policy::Ordered(Order::Optimistic)),
+            2 => Ok(Policy::Ordered(Order::Pessimistic)),
+            _ => Err(UnknownFreelist),
+        }
     }
-    if code == 1 {
-        return Named::Known(Policy::Ordered(Order::Optimistic));
+}
+
+// The code of a policy.
+impl From<Policy> for u8 {
+    ghost from_gives = { λ policy r. r ≡ code_of policy };
+
+    fn from(policy: Policy) -> u8 {
+        match policy {
+            Policy::None => 0,
+            Policy::Ordered(Order::Optimistic) => 1,
+            Policy::Ordered(Order::Pessimistic) => 2,
+        }
     }
-    if code == 2 {
-        return Named::Known(Policy::Ordered(Order::Pessimistic));
+}
+
+// An unknown code is refusal 2.
+impl From<UnknownFreelist> for SetupError {
+    ghost from_gives = { λ _ r. r ≡ UnknownFreelist };
+
+    fn from(_: UnknownFreelist) -> SetupError {
+        SetupError::UnknownFreelist
     }
-    Named::Unknown
 }
 
 // The settings of somebody who names none.
-pub fn defaults() -> Settings
-    ensures { result ≡ default_settings }
-{
-    Settings {
-        reserved: 0,
-        unify: false,
-        policy: 1,
-        minimum_segment_size: 20,
-        read_only: false,
+impl Default for Settings {
+    ghost is_default = { λ s. s ≡ default_settings };
+
+    fn default() -> Settings {
+        Settings {
+            reserved: 0,
+            unify: false,
+            policy: u8::from(Policy::Ordered(Order::Optimistic)),
+            minimum_segment_size: 20,
+            read_only: false,
+        }
     }
 }
 
 // A fresh arena over a buffer of any contents, of which no byte is written.
-pub fn setup(settings: Settings, buf: &[u8]) -> Begun
+#[tactic(auto, unfolding(crate::specs::Setup::setting_up))]
+pub fn setup(settings: Settings, buf: &[u8]) -> Result<Arena, SetupError>
     ensures { began result ≡ setting_up settings (length buf.now) }
 {
-    let Named::Known(policy) = policy_of(settings.policy) else {
-        return Begun::UnknownFreelist;
-    };
+    let policy = Policy::try_from(settings.policy)?;
     let cap = buf.len();
-    if (LIMIT as usize) < cap {
-        return Begun::BadSetup;
-    }
     let start = data_offset(settings.reserved, settings.unify);
-    if cap < start {
-        return Begun::BadSetup;
+    if cap > LIMIT as usize || cap < start {
+        return Err(SetupError::BadSetup);
     }
     let shape = Shape {
         cap: cap as u32,
@@ -75,5 +98,5 @@ pub fn setup(settings: Settings, buf: &[u8]) -> Begun
         minimum_segment_size: settings.minimum_segment_size,
         discarded: 0,
     };
-    Begun::Ready(Arena { shape, header })
+    Ok(Arena { shape, header })
 }

@@ -64,6 +64,9 @@ module _ (size align : ℕ) where
     unfolding good_layout
     layout_mask e = simp (le-leb _ _ within, e, good_mask align e size)
 
+-- the laws of the test, for `good_layout`
+pub ruleset layouts = (layout_large, layout_bad, layout_mask, good_pos)
+
 -- the test of a request in numbers
 pub formed_laid : (r : Request) → well_formed r ≡ (leb (layout_of r).extra limit && good_layout (layout_of r).size (layout_of r).align)
 unfolding well_formed layout_of good_layout good_align
@@ -94,3 +97,6 @@ module _ {r : Request} where
   pub aligned_formed : {size align extra : ℕ} → r ≡ Aligned size align extra → well_formed r ≡ true → GoodLayout size align × (extra ≤ limit)
   unfolding well_formed
   aligned_formed e h = let a = both _ _ (rw e at h) in (layout_facts _ _ a.1, leb-true _ _ a.0)
+
+-- the facts of a well-formed request that names an alignment, for `list_block`
+pub ruleset formed = (typed_formed, aligned_formed)

@@ -8,10 +8,11 @@ use native.Mathlib.Omega.{arith}
 use native.Mathlib.Nat.{add-sub_cancel_left}
 use borrow.Author.Tests.{eqb-false, not-true, leb-true}
 use lib.Dec.{eqb, leb}
+use Rattle.std.specs.Prelude.{Option, Some, None}
 use Rattle.words.specs.Round.{round_up}
 use Rattle.words.proofs.Rounding.{round_ge, round_lt}
 use Rattle.words.specs.Pick.{pick}
-use Rattle.records.proofs.Facts.{both, fails, picked}
+use Rattle.records.proofs.Facts.{both, fails}
 use Rattle.records.specs.declared.Block.{Block}
 use Rattle.records.specs.declared.Request.{Request}
 use Rattle.records.specs.declared.Request.TheVariants.{Bytes, Typed, Aligned}
@@ -194,17 +195,23 @@ want_above top r formed =
     (λ size align extra large h some. omega (arith, round_ge align top (aligned_formed refl h).0.some))
     r (plain_formed r formed)
 
+-- an answer that a test lets through: the test holds
+pub picked_some : (t : Bool) (o : Option ℕ) (n : ℕ) → Some n ≡ pick t o None → (t ≡ true) × (Some n ≡ o)
+picked_some true o n e = (refl, e)
+picked_some false o n e = absurd (cc)
+
 module _ (cap top : ℕ) (r : Request) where
   -- a request that the top meets
-  pub top_met : (end : ℕ) → end ≡ top_end cap top r → 0 < end → (well_formed r ≡ true) × (for_nothing (plain r) ≡ false) × (end ≡ want top (plain r)) × (end ≤ cap)
+  pub top_met : (end : ℕ) → Some end ≡ top_end cap top r → (well_formed r ≡ true) × (for_nothing (plain r) ≡ false) × (end ≡ want top (plain r)) × (end ≤ cap)
   unfolding top_end
-  top_met end e some =
-      let p = picked (well_formed r && not (for_nothing (plain r)) && leb (want top (plain r)) cap) (want top (plain r)) end e some in
+  top_met end e =
+      let p = picked_some (well_formed r && not (for_nothing (plain r)) && leb (want top (plain r)) cap) (Some (want top (plain r))) end e in
+      let is : end ≡ want top (plain r) = cc in
       let a = both _ _ p.0 in
       let b = both _ _ a.0 in
-      (b.0, not-true _ b.1, p.1, rw p.1 (leb-true _ _ a.1))
+      (b.0, not-true _ b.1, is, rw is (leb-true _ _ a.1))
 
   -- one that would be met but for its end
-  pub top_past : well_formed r ≡ true → for_nothing (plain r) ≡ false → top_end cap top r ≡ 0 → leb (want top (plain r)) cap ≡ false
+  pub top_past : well_formed r ≡ true → for_nothing (plain r) ≡ false → top_end cap top r ≡ None → leb (want top (plain r)) cap ≡ false
   unfolding top_end
-  top_past formed some e = fails (leb (want top (plain r)) cap) (λ h. let z : want top (plain r) ≡ 0 = simp (formed, some, h) at e in omega (arith, z, want_above top r formed some))
+  top_past formed some e = fails (leb (want top (plain r)) cap) (λ h. let some_end : Some (want top (plain r)) ≡ None = simp (formed, some, h) at e in cc)

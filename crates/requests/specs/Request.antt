@@ -1,5 +1,5 @@
 -- The three requests, on numbers alone: what is well-formed, wanted, needed and recorded. Document 01, 'Numbers that bound it' and 'Taking room'.
-use Rattle.std.specs.Prelude.{ℕ, ◌+◌, ◌-◌, ◌%◌, ◌≤◌, ◌≡◌, Bool, false, not, ◌&&◌, leb, eqb}
+use Rattle.std.specs.Prelude.{ℕ, ◌+◌, ◌-◌, ◌%◌, ◌≤◌, ◌≡◌, Bool, false, not, ◌&&◌, leb, eqb, Option, Some, None}
 use Rattle.words.specs.Round.{round_up}
 use Rattle.words.specs.Align.{good_align}
 use Rattle.words.specs.Pick.{pick}
@@ -43,10 +43,10 @@ want top (Bytes n) = top + n
 want top (Typed size align) = round_up align top + size
 want top (Aligned size align extra) = round_up align top + size + extra
 
--- 01: the top meets a well-formed request for something that does not pass cap: where it ends then, and 0 for any other
-unfoldable pub top_end : ℕ → ℕ → Request → ℕ
+-- 01: the top meets a well-formed request for something that does not pass cap: where it ends then, and None for any other
+unfoldable pub top_end : ℕ → ℕ → Request → Option ℕ
 top_end cap top r =
-    pick (well_formed r && not (for_nothing (plain r)) && leb (want top (plain r)) cap) (want top (plain r)) 0
+    pick (well_formed r && not (for_nothing (plain r)) && leb (want top (plain r)) cap) (Some (want top (plain r))) None
 
 -- 01: the need is n, size + align - 1, or that + extra
 unfoldable pub need : Request → ℕ

@@ -1,5 +1,7 @@
 // The three requests on numbers alone: which are well-formed, where they end at the top, what they need of a segment,
 // and the block that they have of one. What differs between bytes, typed and aligned requests is here and nowhere else.
+// That a request is well-formed is a clause and no type: `take_top` of the crate above knows it by its own contract alone, and
+// would test the request once more to make a value of such a type.
 #![tactic(auto)]
 
 ghost use Rattle.std.specs.Prelude.{◌≡◌, true, ◌+◌, ◌≤◌};
@@ -16,78 +18,60 @@ struct Layout {
     extra: u32,
 }
 
-// A request in numbers.
-fn layout_of(request: Request) -> Layout
-    ensures { result ≡ layout_of request }
-{
-    match request {
-        Request::Bytes(n) => Layout {
-            size: n,
-            align: 1,
-            extra: 0,
-        },
-        Request::Typed { size, align } => Layout {
-            size,
-            align,
-            extra: 0,
-        },
-        Request::Aligned { size, align, extra } => Layout { size, align, extra },
+impl From<Request> for Layout {
+    ghost from_gives = { λ r y. y ≡ layout_of r };
+
+    #[tactic(auto, unfolding(crate::specs::Request::layout_of))]
+    fn from(request: Request) -> Layout {
+        match request {
+            Request::Bytes(n) => Layout {
+                size: n,
+                align: 1,
+                extra: 0,
+            },
+            Request::Typed { size, align } => Layout {
+                size,
+                align,
+                extra: 0,
+            },
+            Request::Aligned { size, align, extra } => Layout { size, align, extra },
+        }
     }
 }
 
-// Whether a size and an alignment may be asked for together.
+// Whether a size and an alignment may be asked for together, the multiple by a mask, which costs no division.
+#[tactic(auto, using(crate::proofs::Layouts::layouts))]
 fn good_layout(size: u32, align: u32) -> bool
     ensures { result ≡ good_layout size align }
 {
-    if records::LIMIT < size {
-        return false;
-    }
-    if !words::good_align(align) {
-        return false;
-    }
-    size & (align - 1) == 0
+    size <= records::LIMIT && words::good_align(align) && size & (align - 1) == 0
 }
 
 // Whether a request keeps to the limits.
 pub fn well_formed(request: Request) -> bool
     ensures { result ≡ well_formed request }
 {
-    let layout = layout_of(request);
-    if records::LIMIT < layout.extra {
-        return false;
-    }
-    good_layout(layout.size, layout.align)
+    let layout = Layout::from(request);
+    layout.extra <= records::LIMIT && good_layout(layout.size, layout.align)
 }
 
 // The request, its alignment dropped where it asks for extra bytes alone.
+#[tactic(auto, unfolding(crate::specs::Request::plain))]
 pub fn simplify(request: Request) -> Request
     ensures { result ≡ plain request }
 {
     match request {
-        Request::Bytes(_) => request,
-        Request::Typed { .. } => request,
-        Request::Aligned {
-            size,
-            align: _,
-            extra,
-        } => {
-            if size == 0 {
-                return Request::Bytes(extra);
-            }
-            request
-        }
+        Request::Aligned { size: 0, extra, .. } => Request::Bytes(extra),
+        _ => request,
     }
 }
 
 // Whether a simplified request asks for nothing.
+#[tactic(auto, unfolding(crate::specs::Request::for_nothing))]
 pub fn for_nothing(request: Request) -> bool
     ensures { result ≡ for_nothing request }
 {
-    match request {
-        Request::Bytes(n) => n == 0,
-        Request::Typed { size, align: _ } => size == 0,
-        Request::Aligned { .. } => false,
-    }
+    matches!(request, Request::Bytes(0) | Request::Typed { size: 0, .. })
 }
 
 // A request at the top: where it ends, where its usable part starts, and from where up to the end it is zeroed.
@@ -99,40 +83,34 @@ pub struct Room {
 }
 
 // What a request takes at the top.
+#[tactic(auto, using(crate::proofs::Layouts::laid_formed))]
 pub fn at_top(top: u32, request: Request) -> Room
     requires { well_formed request ≡ true }
     ensures { Planned top request result.want result.at result.from }
 {
-    let layout = layout_of(request);
+    let layout = Layout::from(request);
     let at = words::align_offset(top as usize, layout.align as usize);
     let want = at + layout.size as usize + layout.extra as usize;
-    match request {
-        Request::Bytes(_) => Room { want, at, from: at },
-        Request::Typed { .. } => Room { want, at, from: at },
-        Request::Aligned { .. } => Room {
-            want,
-            at,
-            from: want,
-        },
-    }
+    let from = match request {
+        Request::Aligned { .. } => want,
+        Request::Bytes(_) | Request::Typed { .. } => at,
+    };
+    Room { want, at, from }
 }
 
-// Where a request that the top meets ends; 0 for any other.
-pub fn top_end(cap: u32, top: u32, request: Request) -> usize
+// Where a request that the top meets ends: that alone, since it is what `end_at_top` of the crate above says.
+pub fn top_end(cap: u32, top: u32, request: Request) -> Option<usize>
     ensures { result ≡ top_end cap top request }
 {
     if !well_formed(request) {
-        return 0;
+        return None;
     }
     let plain = simplify(request);
     if for_nothing(plain) {
-        return 0;
+        return None;
     }
     let want = at_top(top, plain).want;
-    if (cap as usize) < want {
-        return 0;
-    }
-    want
+    (want <= cap as usize).then_some(want)
 }
 
 // The data size that a segment must have to serve the request.
@@ -140,7 +118,7 @@ pub fn need_of(request: Request) -> usize
     requires { well_formed request ≡ true }
     ensures { Needed request result }
 {
-    let layout = layout_of(request);
+    let layout = Layout::from(request);
     layout.size as usize + layout.align as usize - 1 + layout.extra as usize
 }
 
@@ -153,15 +131,12 @@ pub fn asked_of(top: u32, request: Request) -> usize
         Request::Bytes(n) => n as usize,
         Request::Typed { size, align } => words::align_offset(top as usize, align as usize)
             + size as usize,
-        Request::Aligned {
-            size,
-            align: _,
-            extra,
-        } => size as usize + extra as usize,
+        Request::Aligned { size, extra, .. } => size as usize + extra as usize,
     }
 }
 
 // The block that a request has of a segment whose node stands at p, with a memory size m that meets its need.
+#[tactic(auto, using(crate::proofs::Layouts::formed), unfolding(crate::specs::Request::list_block, crate::specs::Request::need))]
 pub fn list_block(p: usize, m: usize, request: Request) -> Block
     requires { (well_formed request ≡ true) × (p + 8 + m ≤ limit) × (need request ≤ m) }
     ensures { result ≡ list_block p m request }
@@ -179,11 +154,7 @@ pub fn list_block(p: usize, m: usize, request: Request) -> Block
             usable_offset: words::align_offset(p, align as usize) as u32,
             usable_size: size,
         },
-        Request::Aligned {
-            size: _,
-            align,
-            extra: _,
-        } => {
+        Request::Aligned { align, .. } => {
             let at = words::align_offset(p, align as usize);
             Block {
                 memory_offset: p as u32,

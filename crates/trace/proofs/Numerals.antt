@@ -1,26 +1,30 @@
--- The number that digits say, one digit more at a time. Assumes nothing.
-use Prim.Native.Nat.{ℕ, ◌+◌, ◌-◌, ◌*◌, ◌<◌}
-use mathlib.Core.Path.{◌≡◌, refl}
-use mathlib.Core.Bool.{false}
-use mathlib.Core.List.{List, [], ◌∷◌, ◌++◌}
-use native.Mathlib.Numerals.{add-one}
-use native.Mathlib.Omega.{arith}
-use lib.ListN.{length, take, get_or}
-use lib.Seq.{take-suc}
-use Rattle.trace.specs.Numeral.{onto, Counted}
-use Rattle.trace.specs.declared.cursor.Cursor.{Cursor}
+-- The number that digits say, as the library reads it. Assumes nothing.
+use Rattle.std.proofs.Common.{◌≡◌, ◌≢◌, ℕ, ap, pos, [], ◌∷◌, true, List, Result, None, Ok, Err, refl, get_or, rules, tests, arith}
+use Rattle.std.specs.Str.{all_ascii_digits}
+use Rattle.std.specs.Str.Parse.{ParsesUnsigned}
+use Rattle.std.specs.Str.Pattern.{FindsCharPrefix}
+use Rattle.std.specs.Result.{result_ok}
+use Rattle.std.proofs.lemmas.Str.Pattern.{strip_prefix_char}
+use Rattle.std.proofs.lemmas.Str.Parse.{IsNumeralModel, numerals_by_fold, parse_plain}
+use Rattle.trace.specs.Numeral.{onto, numeral, signed_numeral, Says, Counted}
 
--- a digit at the end
-onto_end : (n d : ℕ) (ds : List ℕ) → onto n (ds ++ (d ∷ [])) ≡ onto n ds * 10 + (d - 48)
+-- what the library's fold over digits says is their numeral
+numerals : IsNumeralModel (λ ds. all_ascii_digits ds ≡ true) numeral
 unfolding onto
-onto_end n d [] = refl
-onto_end n d (x ∷ ds) = onto_end (n * 10 + (x - 48)) d ds
+numerals = numerals_by_fold _ (search rules) onto (search rules)
 
--- the digits up to i and the one at i
-pub onto_more : (n : ℕ) (ds : List ℕ) (i : ℕ) → i < length ds → onto n (take i ds) * 10 + (get_or ds i 0 - 48) ≡ onto n (take (i + 1) ds)
-onto_more n ds i h = rw (add-one i, take-suc ds i 0 h, onto_end n (get_or ds i 0) (take i ds))
+-- what is parsed with no plus in front is what the digits say
+pub parsed : {E : Type 0} (ds : List ℕ) (r : Result ℕ E) → ParsesUnsigned 64 10 ds r → get_or ds 0 0 ≢ 43 → Says ds (result_ok r)
+parsed {E} ds (Ok n) h no_plus = (parse_plain numerals {E = E} 64 ds (Ok n) h no_plus).1
+parsed ds (Err e) h no_plus = tt
 
--- a cursor that is bad says nothing
-pub uncounted : (text : List ℕ) (c : Cursor) (most : ℕ) (r : Cursor) → (r.good ≡ false) × (r.value ≡ 0) → Counted text c most r
-uncounted text c most r e =
-    record { small = omega arith; says = λ g. let no : ◌≡◌ {A = ℕ} 0 1 = cc in absurd (omega arith) }
+-- with no minus in front they say a number from zero up
+pub signed_plain : (ds : List ℕ) → FindsCharPrefix 45 ds None → signed_numeral ds ≡ pos (numeral ds)
+signed_plain [] h = refl
+signed_plain (d ∷ ds) h =
+    let no_minus : d ≢ 45 = λ e. strip_prefix_char 45 (d ∷ ds) None h (omega arith) ds (ap (λ (x : ℕ). x ∷ ds) e) in
+    search (tests, rules)
+
+-- no number says nothing. docs/PORT.md names this law; the search finds it, so no proof cites it
+pub uncounted : {T E : Type 0} (gives : ℕ → Result T E → Type 0) (ds : List ℕ) → Counted gives ds None
+uncounted gives ds = tt

@@ -1,3 +1,4 @@
 -- The definitions that the contracts of this crate cite.
-pub mod Made
+pub mod Fill
 pub mod Numeral
+pub mod Refused

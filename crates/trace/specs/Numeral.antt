@@ -1,8 +1,6 @@
 -- The number that decimal digits say, the most significant first.
-use Rattle.std.specs.Prelude.{ℕ, ◌+◌, ◌-◌, ◌*◌, ◌≤◌, ◌≡◌, true, List, [], ◌∷◌, take, drop}
-use Rattle.trace.specs.declared.cursor.Cursor.{Cursor}
-use Rattle.trace.specs.declared.cursor.Value.{Value}
-use Rattle.trace.specs.declared.cursor.Value.TheVariants.{Is, Unclear}
+use Rattle.std.specs.Prelude.{ℕ, ◌+◌, ◌-◌, ◌*◌, ◌≡◌, if◌then◌else◌, ℤ, pos, neg_ℤ, List, [], ◌∷◌, drop, Option, Some, None, Result, Ok}
+use Rattle.std.specs.Str.Parse.{starts_with_minus}
 
 -- digits after a number n
 unfoldable pub onto : ℕ → List ℕ → ℕ
@@ -13,11 +11,15 @@ abbrev pub numeral : List ℕ → ℕ
 numeral ds = onto 0 ds
 
 -- a number that was found is the one that the digits say
-abbrev pub Says : List ℕ → Value → Type 0
-Says ds (Is n) = n ≡ numeral ds
-Says ds Unclear = Unit
+abbrev pub Says : List ℕ → Option ℕ → Type 0
+Says ds (Some n) = n ≡ numeral ds
+Says ds None = Unit
 
--- past a number: it is small enough, and it is what the text between the two cursors says
-pub record Counted (text : List ℕ) (c : Cursor) (most : ℕ) (r : Cursor) : Type 0 where
-  pub small : r.value ≤ most
-  pub says : r.good ≡ true → r.value ≡ numeral (take (r.at - c.at) (drop c.at text))
+-- a number that was found is small enough for its type, which makes it by `gives`, and it is what the digits say
+abbrev pub Counted : {T E : Type 0} → (ℕ → Result T E → Type 0) → List ℕ → Option T → Type 0
+Counted gives ds (Some n) = gives (numeral ds) (Ok n)
+Counted gives ds None = Unit
+
+-- the number that digits say, below zero where a minus stands before them
+abbrev pub signed_numeral : List ℕ → ℤ
+signed_numeral ds = if starts_with_minus ds then neg_ℤ (pos (numeral (drop 1 ds))) else pos (numeral ds)

@@ -1,13 +1,15 @@
 -- The laws of digits and words: bytes as numbers, what a lent part gives back, what is read back after a word is put or a range zeroed, and a word's halves.
 -- Assumes nothing.
-use Prim.Native.Nat.{ℕ, zero, suc, ◌+◌, ◌-◌, ◌*◌, ◌/◌, ◌%◌, ◌^◌, ◌≤◌, ◌<◌}
+use Prim.Native.Nat.{ℕ, zero, suc, ◌+◌, ◌-◌, ◌*◌, ◌/◌, ◌^◌, ◌≤◌, ◌<◌}
 use mathlib.Core.Path.{◌≡◌, refl, ap, ◌∙◌}
-use mathlib.Core.List.{List, [], ◌∷◌, ◌++◌, append-nil}
+use mathlib.Core.List.{List, ◌++◌}
 use native.Mathlib.Omega.{arith}
 use native.Mathlib.Nat.{pow-suc, div-div-eq-div-mul, add-sub_cancel_left}
 use lib.ListN.{length, take, drop, get_or, replicate, length-replicate, drop_of_length-le, length-take, length-drop}
-use lib.Seq.{drop-cons, sets, sets-eq}
+use lib.Seq.{drop-cons}
 use native.Mathlib.Numerals.{add-one}
+use Rattle.std.specs.Array.{IsWholeChunk}
+use Rattle.std.specs.Int.{w64, from_le_bytes, to_le_bytes}
 use Rattle.words.specs.Word.{value_of, digits, splice, word_at, put_word, zeroed, size_half, next_half, node_word, NodeOf}
 use Rattle.words.proofs.Ranges.{Parted}
 use Rattle.words.proofs.Splice.{lent_back, splice-length, splice_part, splice_off}
@@ -31,10 +33,9 @@ value_step : (l : List ℕ) (k : ℕ) → k < length l → value_of (drop k l) �
 unfolding value_of
 value_step l k h = rw (drop-cons l k 0 h, add-one k)
 
--- eight bytes, written out
-pub value_eight : (l : List ℕ) → length l ≡ 8
-    → value_of l ≡ get_or l 0 0 + 256 * (get_or l 1 0 + 256 * (get_or l 2 0 + 256 * (get_or l 3 0 + 256 * (get_or l 4 0 + 256 * (get_or l 5 0 + 256 * (get_or l 6 0 + 256 * get_or l 7 0))))))
-value_eight l eq =
+-- the library's number of eight bytes, and its eight bytes of a word
+pub value_le : (l : List ℕ) → length l ≡ 8 → from_le_bytes w64 l ≡ value_of l
+value_le l eq =
     let none : value_of (drop 8 l) ≡ 0 = unfold value_of in rw (drop_of_length-le l {i = 8} (omega arith)) in
     omega (
       arith,
@@ -48,24 +49,18 @@ value_eight l eq =
       value_step l 7 (omega arith),
     )
 
--- eight stores, one to each byte, leave the digits of the word
-pub write_eight : (l : List ℕ) (w : ℕ) → length l ≡ 8
-    → sets l 0 (w % 256 ∷ w / 256 % 256 ∷ w / 65536 % 256 ∷ w / 16777216 % 256 ∷ w / 4294967296 % 256 ∷ w / 1099511627776 % 256 ∷ w / 281474976710656 % 256 ∷ w / 72057594037927936 % 256 ∷ []) ≡ digits 8 w
+pub digits_le : (w : ℕ) → to_le_bytes w64 w ≡ digits 8 w
 unfolding digits
-write_eight l w eq =
-    let vs : List ℕ = w % 256 ∷ w / 256 % 256 ∷ w / 65536 % 256 ∷ w / 16777216 % 256 ∷ w / 4294967296 % 256 ∷ w / 1099511627776 % 256 ∷ w / 281474976710656 % 256 ∷ w / 72057594037927936 % 256 ∷ [] in
-    sets-eq vs l 0 (omega arith) ∙ simp (drop_of_length-le l {i = 8} (omega arith), div-div-eq-div-mul)
+digits_le w = simp div-div-eq-div-mul
 
--- a list that a loop has filled with v up to its end
-pub filled : (d l : List ℕ) (i v : ℕ) → l ≡ replicate i v ++ drop i d → length d ≤ i → i ≤ length d → l ≡ replicate (length d) v
-filled d l i v e low high =
-    let all : i ≡ length d = omega arith in
-    e ∙ rw (drop_of_length-le d {i = i} low) (append-nil (replicate i v) ∙ ap (λ (n : ℕ). replicate n v) all)
-
--- eight bytes at p that were lent to be read
-pub read_lent : (l : List ℕ) (p : ℕ) → value_of (take (p + 8 - p) (drop p l)) ≡ word_at l p
+-- the halves of the number that eight bytes at p, lent to be read, say
+pub node_read : (l m : List ℕ) (p v : ℕ) {s n : ℕ} → IsWholeChunk (take (p + 8 - p) (drop p l)) m 8 → v ≡ from_le_bytes w64 m → NodeOf v s n → NodeOf (word_at l p) s n
 unfolding word_at
-read_lent l p = ap (λ (n : ℕ). value_of (take n (drop p l))) (add-sub_cancel_left p 8)
+node_read l m p v whole e h =
+    let eight : length m ≡ 8 = ap length whole.same ∙ whole.long in
+    let part : take (p + 8 - p) (drop p l) ≡ take 8 (drop p l) = ap (λ (n : ℕ). take n (drop p l)) (add-sub_cancel_left p 8) in
+    let same : v ≡ value_of (take 8 (drop p l)) = e ∙ value_le m eight ∙ ap value_of (whole.same ∙ part) in
+    rw (← same) h
 
 -- eight bytes at p that were lent and came back as the digits of w
 pub put_lent : (l : List ℕ) (p w : ℕ) (m : List ℕ) → m ≡ digits 8 w → take p l ++ (m ++ drop (p + 8 - p) (drop p l)) ≡ put_word l p w
@@ -117,11 +112,3 @@ word_size s n h = omega arith
 
 pub word_next : (s n : ℕ) → n < 2 ^ 32 → next_half (node_word s n) ≡ n
 word_next s n h = omega arith
-
--- the halves of eight bytes, each read by itself
-pub node_halves : (l : List ℕ) (s n : ℕ) → length l ≡ 8
-    → n ≡ get_or l 0 0 + 256 * get_or l 1 0 + 65536 * get_or l 2 0 + 16777216 * get_or l 3 0
-    → s ≡ get_or l 4 0 + 256 * get_or l 5 0 + 65536 * get_or l 6 0 + 16777216 * get_or l 7 0
-    → n < 4294967296
-    → NodeOf (value_of l) s n
-node_halves l s n eq en es small = record { sized = omega (arith, value_eight l eq); nexted = omega (arith, value_eight l eq) }

@@ -1,14 +1,8 @@
--- `arena::end_at_top` meets its contract: the tests of `end_at_top`, in their order.
+-- `arena::end_at_top` meets its contract: past its tests it is where the request ends at the top.
 -- Assumes nothing.
-use mathlib.Core.Path.{sym, ◌∙◌}
-use Rattle.arena.proofs.Takes.{ends_read_only, ends_damaged, ends_open}
+use Rattle.std.proofs.Common.{sym, ◌∙◌}
+use Rattle.arena.proofs.Takes.{ends_open}
 use Rattle.arena.proofs.end_at_top.Goals as goal
-
-pub returns-then-shape : goal.returns-then-shape
-returns-then-shape c = ends_read_only _ _ _ _ c.if-shape.true
-
-pub returns-then-not-head_sound : goal.returns-then-not-head_sound
-returns-then-not-head_sound c = ends_damaged _ _ _ _ c.if-shape.false (sym c.head_sound.ensures ∙ c.if-not-head_sound.true)
 
 pub returns : goal.returns
 returns c =

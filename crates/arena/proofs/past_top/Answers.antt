@@ -8,16 +8,15 @@ use Rattle.arena.proofs.past_top.Goals as goal
 
 pub asked_of-requested-requires : goal.asked_of-requested-requires
 asked_of-requested-requires c =
-    (c.requires.formed, omega (arith, sound_head _ _ _ c.requires.found.0))
+    (c.requires.formed, omega (arith, sound_head _ _ _ c.requires.found.good))
 
 pub returns-in_default : goal.returns-in_default
 returns-in_default c = past_none _ _ _ _ (cc) _ _ c.asked_of-requested.ensures.0 c.remaining-available.ensures
 
-pub returns-in-Miss : goal.returns-in-Miss
-returns-in-Miss c =
-    past_missed _ _ _ _ _ (cc) _ c.need_of-need.ensures.is _ (rw c.in-Miss.is at c.search_list-lookup.ensures)
-
-pub returns-in-Hit : goal.returns-in-Hit
-returns-in-Hit c =
-    let g = rw c.in-Hit.is at c.search_list-lookup.ensures in
+pub returns-in-Ok : goal.returns-in-Ok
+returns-in-Ok c =
+    let g = rw c.in-Ok.is at c.search_list.ensures in
     c.take_node.ensures ∙ past_found _ _ _ _ _ (cc) _ c.need_of-need.ensures.is _ g.0
+
+pub returns-in-Err : goal.returns-in-Err
+returns-in-Err c = past_missed _ _ _ _ _ (cc) _ c.need_of-need.ensures.is _ (rw c.in-Err.is at c.search_list.ensures)

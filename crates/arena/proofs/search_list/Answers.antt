@@ -1,41 +1,32 @@
 -- `arena::search_list` meets its contract. The answers of `look`: by the order, and then by the room of the node that it looks at.
 -- Assumes nothing.
-use Prim.Native.Nat.{◌<◌}
-use native.Mathlib.Omega.{arith}
-use Rattle.freelist.specs.Segs.{EndsBy}
-use Rattle.freelist.proofs.Runs.{all_pop}
-use Rattle.arena.proofs.Lists.{free_held}
+use Rattle.std.proofs.Common.{arith, rules, tests, sym, ◌∙◌, leb}
+use Rattle.freelist.proofs.Arenas.{sound_head, sound_ends}
 use Rattle.arena.proofs.Takes.{looks_empty, looks_small, looks_first, looks_none, looks_fit}
 use Rattle.arena.proofs.search_list.Goals as goal
 
-pub returns-then-count-eq0 : goal.returns-then-count-eq0
-returns-then-count-eq0 c = rw c.remaining-room.ensures (looks_empty _ _ _ (cc) _ (omega arith))
+pub returns-in_default : goal.returns-in_default
+returns-in_default c =
+    rw c.remaining-room.ensures (looks_empty _ _ _ (cc) _ (sym c.free_nodes-nodes.ensures ∙ c.in_default.ensures.steps.0))
 
-pub node_at-size-requires : goal.node_at-size-requires
-node_at-size-requires c =
-    let k = (free_held _ _ _ _ _ c.requires.0 c.first_of-first.ensures c.requires.1) in
-    let some : 0 < c.args.count = omega arith in
-    omega (arith, (all_pop _ (EndsBy _) _ _ some k.ends).0)
+pub overflow_cast-result : goal.overflow_cast-result
+overflow_cast-result c =
+    let ends = rw (sym c.free_nodes-nodes.ensures ∙ c.in-Some.ensures.steps) at (sound_ends _ _ _ c.requires.good) in
+    omega (arith, ends.0, sound_head _ _ _ c.requires.good)
 
-pub returns-then-size-need : goal.returns-then-size-need
-returns-then-size-need c =
-    looks_small _ _ _ (cc) _ _ _ c.node_at-size.ensures.sized _ (free_held _ _ _ _ _ c.requires.0 c.first_of-first.ensures c.requires.1).run (omega arith) c.if-size-need.true
+pub returns-then-head-need : goal.returns-then-head-need
+returns-then-head-need c =
+    looks_small _ _ _ (cc) _ c.in-Some.head _ (sym c.free_nodes-nodes.ensures ∙ c.in-Some.ensures.steps) c.if-head-need.true
 
-pub find_place-spot-requires : goal.find_place-spot-requires
-find_place-spot-requires c =
-    let k = (free_held _ _ _ _ _ c.requires.0 c.first_of-first.ensures c.requires.1) in
-    record { ends = k.ends; whole = k.stops }
+pub returns-else-head-need : goal.returns-else-head-need
+returns-else-head-need c =
+    looks_first _ _ _ (cc) _ c.in-Some.head _ (sym c.free_nodes-nodes.ensures ∙ c.in-Some.ensures.steps) c.if-head-need.false
 
-pub returns-then-count-spot : goal.returns-then-count-spot
-returns-then-count-spot c =
-    let k = rw (free_held _ _ _ _ _ c.requires.0 c.first_of-first.ensures c.requires.1).are at c.find_place-spot.ensures in
-    rw c.remaining-room.ensures (looks_none _ _ _ (cc) _ _ k (omega arith))
+pub returns-then-spot-count : goal.returns-then-spot-count
+returns-then-spot-count c =
+    looks_fit _ _ _ (cc) _ _ (rw c.free_nodes-nodes.ensures at (c.find_place-spot.ensures (λ s. leb c.args.need s.size) (λ s r p. search (rules, tests)))) (omega (arith, c.requires.counts))
 
-pub returns-else-size-need : goal.returns-else-size-need
-returns-else-size-need c =
-    looks_first _ _ _ (cc) _ _ _ c.node_at-size.ensures.sized _ (free_held _ _ _ _ _ c.requires.0 c.first_of-first.ensures c.requires.1).run (omega arith) c.if-size-need.false
-
-pub returns-else-count-spot : goal.returns-else-count-spot
-returns-else-count-spot c =
-    let k = rw (free_held _ _ _ _ _ c.requires.0 c.first_of-first.ensures c.requires.1).are at c.find_place-spot.ensures in
-    looks_fit _ _ _ (cc) _ _ k (omega arith)
+pub returns-else-spot-count : goal.returns-else-spot-count
+returns-else-spot-count c =
+    rw c.remaining-room.ensures
+    (looks_none _ _ _ (cc) _ _ (rw c.free_nodes-nodes.ensures at (c.find_place-spot.ensures (λ s. leb c.args.need s.size) (λ s r p. search (rules, tests)))) (omega (arith, c.requires.counts)))

@@ -9,7 +9,8 @@ use Rattle.records.specs.declared.Request.{Request}
 use Rattle.records.specs.Head.{head_sound}
 use Rattle.requests.specs.Request.{well_formed, plain}
 use Rattle.requests.proofs.Plans.{plain_formed}
-use Rattle.freelist.proofs.Surveys.{found_sound, found_unsound}
+use Rattle.freelist.proofs.Surveys.{found_unsound}
+use Rattle.arena.proofs.Lists.{found_counted}
 use Rattle.arena.proofs.Takes.{Admitted, takes_read_only, takes_bad_layout, takes_damaged, takes_nothing, takes_unsound, takes_past}
 use Rattle.arena.proofs.take_else.Goals as goal
 
@@ -42,10 +43,10 @@ returns-in_default c =
 pub past_top-requires : goal.past_top-requires
 past_top-requires c =
     let k = admitted c.if-shape.false c.well_formed-2.ensures c.if-not-well_formed.false c.head_sound.ensures c.if-not-head_sound.false c.simplify-plain.ensures in
-    record { found = found_sound _ _ _ c.in-Sound.count (cc); formed = rw k.simple (plain_formed _ k.formed) }
+    record { found = found_counted _ _ _ c.in-Some.count (cc); formed = rw k.simple (plain_formed _ k.formed) }
 
 pub returns : goal.returns
 returns c =
     let k = admitted c.if-shape.false c.well_formed-2.ensures c.if-not-well_formed.false c.head_sound.ensures c.if-not-head_sound.false c.simplify-plain.ensures in
     c.past_top.ensures
-    ∙ takes_past _ _ _ _ _ k (sym c.for_nothing.ensures ∙ c.if-for_nothing.false) c.requires (found_sound _ _ _ c.in-Sound.count (cc)).0
+    ∙ takes_past _ _ _ _ _ k (sym c.for_nothing.ensures ∙ c.if-for_nothing.false) c.requires (found_counted _ _ _ c.in-Some.count (cc)).good

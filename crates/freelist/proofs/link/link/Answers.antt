@@ -10,5 +10,5 @@ returns-then-prev-eq-END_MARK c =
 
 pub returns : goal.returns
 returns c =
-    let e = link_node _ _ _ _ _ _ _ c.if-prev-eq-END_MARK.false c.node_at-node.ensures.sized c.node_word.ensures c.put_word.ensures in
+    let e = link_node _ _ _ _ _ _ _ c.if-prev-eq-END_MARK.false c.node_at-node.ensures.sized c.from.ensures c.put_word.ensures in
     record { bytes = e.0; starts = e.1 }

@@ -2,33 +2,28 @@
 -- at b or below it, or at a. The measure is the number of marks left.
 -- Assumes nothing.
 use borrow.Author.Rules.{rules}
-use mathlib.Core.Path.{◌≡◌}
-use Prim.Native.Nat.{◌+◌, ◌-◌, ◌%◌, min}
 use native.Mathlib.Omega.{arith}
 use lib.ListN.{length-set}
 use Rattle.freelist.proofs.Bits.{word_unset, unset_word, word_marked, unset_more, unset_rest, marked_more}
 use Rattle.freelist.proofs.marks.claim.Goals as goal
-use Rattle.freelist.proofs.marks.claim.Goals.{then-b-i, else-b-i}
 
 pub returns-then-word-own-ne0 : goal.returns-then-word-own-ne0
 returns-then-word-own-ne0 c =
     let i = c.loop-i.invariant in
-    let e : c.if-b-i.to ≡ min 64 (c.loop-i.i % 64 + (c.args.b - c.loop-i.i)) = elim c.if-b-i.branch [ then-b-i w ↦ omega arith | else-b-i w ↦ omega arith ] in
     record {
       tells = λ f. c.if-word-own-ne0.true
-          (unset_word _ _ c.if-b-i.to _ (omega (arith, e)) (omega (arith, e)) c.bits-own.ensures
-          (unset_rest _ _ _ _ _ i.0 i.4 (λ x l h. f x l (omega (arith, e)))));
+          (unset_word _ _ _ _ (omega arith) (omega arith) c.bits-own.ensures
+          (unset_rest _ _ _ _ _ i.0 i.4 (λ x l h. f x l (omega arith))));
       marked = λ z. search rules;
     }
 
 pub loop-i-preserved : goal.loop-i-preserved
 loop-i-preserved c =
     let i = c.loop-i.invariant in
-    let r = c.bits-own.ensures in
-    let e : c.if-b-i.to ≡ min 64 (c.loop-i.i % 64 + (c.args.b - c.loop-i.i)) = elim c.if-b-i.branch [ then-b-i w ↦ omega arith | else-b-i w ↦ omega arith ] in (
-      omega (arith, e),
-      omega (arith, e),
+    let r = c.bits-own.ensures in (
+      omega arith,
+      omega arith,
       simp length-set (search rules),
-      unset_more _ _ _ _ _ i.0 i.4 i.3 (word_unset _ _ c.if-b-i.to _ (omega (arith, e)) (omega (arith, e)) r c.if-word-own-ne0.false),
-      marked_more _ _ _ _ _ i.0 i.4 (omega arith) _ (word_marked _ _ c.if-b-i.to _ (omega (arith, e)) (omega (arith, e)) r (omega arith)),
+      unset_more _ _ _ _ _ i.0 i.4 i.3 (word_unset _ _ _ _ (omega arith) (omega arith) r c.if-word-own-ne0.false),
+      marked_more _ _ _ _ _ i.0 i.4 (omega arith) _ (word_marked _ _ _ _ (omega arith) (omega arith) r (omega arith)),
     )

@@ -1,16 +1,10 @@
--- `freelist::marks::windows_apart` meets its contract. The invariant: no two nodes share a cell of the windows that were looked at. The measure is the number of those
--- that are left.
+-- `freelist::marks::windows_apart` meets its contract. The invariant: no two nodes share a cell of the windows that were looked at.
 -- Assumes nothing.
-use mathlib.Core.Path.{◌≡◌}
-use Prim.Native.Nat.{◌+◌, ◌*◌}
-use Rattle.words.specs.Word.{word_at}
-use Rattle.freelist.specs.Segs.{Pairwise, passed}
+use Rattle.std.proofs.Common.{◌*◌}
+use Rattle.freelist.specs.Segs.{Pairwise}
+use Rattle.freelist.specs.Nodes.{rest}
 use Rattle.freelist.specs.Marks.{Free}
 use Rattle.freelist.proofs.marks.windows_apart.Given as goal
 
-abbrev pub invariant-loop-left : goal.invariant-loop-left
-invariant-loop-left l =
-    (l.base + l.left * 65536 ≡ l.windows * 65536) × Pairwise (Free 0 l.base) (passed (word_at l.buf) l.count l.head)
-
-abbrev pub decreases-loop-left : goal.decreases-loop-left
-decreases-loop-left l = l.left
+abbrev pub invariant-loop-window : goal.invariant-loop-window
+invariant-loop-window l = Pairwise (Free 0 (l.window * 65536)) (rest l.nodes)

@@ -1,13 +1,15 @@
--- `freelist::place::find_place` meets its contract. The invariant is `Seeking`; each way of a turn is one law of `Seeks`. The measure is the number of nodes left.
+-- `freelist::place::find_place` meets its contract. The invariant is `Seeking`, for what the test says; those seen and those left are all.
 -- Assumes nothing.
-use lib.ListN.{length}
-use Rattle.words.specs.Word.{word_at}
-use Rattle.freelist.specs.Place.{passes}
+use Rattle.std.proofs.Common.{◌≡◌, Bool, ◌+◌, length}
+use Rattle.std.specs.Iterator.Adapters.{enumerate_source, enumerate_count}
+use Rattle.records.specs.declared.Segment.{Segment}
+use Rattle.freelist.specs.Nodes.{rest}
 use Rattle.freelist.proofs.Seeks.{Seeking}
 use Rattle.freelist.proofs.place.find_place.Given as goal
 
-abbrev pub invariant-loop-left : goal.invariant-loop-left
-invariant-loop-left l = Seeking (word_at l.buf) (passes l.test) (length l.buf) l.head l.count l.left l.prev l.p l.index
-
-abbrev pub decreases-loop-left : goal.decreases-loop-left
-decreases-loop-left l = l.left
+abbrev pub invariant-loop-index : goal.invariant-loop-index
+invariant-loop-index g l =
+    (goal.iterator-loop-index g).can_next l.index-iterator
+    × (goal.iterator-loop-index g).is_finite l.index-iterator
+    × (enumerate_count l.index-iterator + length (rest (enumerate_source l.index-iterator)) ≡ length (rest l.fn.nodes))
+    × ((f : Segment → Bool) → ((s : Segment) (r : Bool) → goal.F-post g l.fn.test s r → r ≡ f s) → Seeking f (rest l.fn.nodes) (rest (enumerate_source l.index-iterator)) l.prev (enumerate_count l.index-iterator))

@@ -1,11 +1,8 @@
--- `freelist::sound::arena_sound` meets its contract. What the answer of `survey` says, by the laws of `Surveys`.
+-- `freelist::sound::arena_sound` meets its contract: the check gives an answer of a sound arena, and of no other.
 -- Assumes nothing.
-use mathlib.Core.Path.{sym}
-use Rattle.freelist.proofs.Surveys.{found_sound, found_unsound}
+use Rattle.std.proofs.Common.{◌∙◌}
+use Rattle.freelist.proofs.Surveys.{answers_sound}
 use Rattle.freelist.proofs.sound.arena_sound.Goals as goal
 
-pub returns-in-Sound : goal.returns-in-Sound
-returns-in-Sound c = sym (found_sound _ _ _ c.in-Sound.field-0 (cc)).0
-
-pub returns-in-Unsound : goal.returns-in-Unsound
-returns-in-Unsound c = sym (found_unsound _ _ _ (cc))
+pub returns : goal.returns
+returns c = c.is_some.ensures ∙ rw c.survey.ensures (answers_sound _ _ _)

@@ -1,13 +1,13 @@
--- `freelist::split::apart_pairs` meets its contract. The invariant: what is asked of the whole list is asked of the nodes that are left. The measure is their number.
+-- `freelist::split::apart_pairs` meets its contract: a list with a node of which a later one has a byte is not apart.
 -- Assumes nothing.
-use mathlib.Core.Path.{◌∙◌}
-use Rattle.freelist.specs.Segs.{EndsBy}
-use Rattle.freelist.proofs.Runs.{all_pop}
-use Rattle.freelist.proofs.Aparts.{apart_miss}
+use Rattle.std.proofs.Common.{sym, ◌∙◌}
+use Rattle.freelist.proofs.Aparts.{apart_hit, apart_miss}
 use Rattle.freelist.proofs.split.apart_pairs.Goals as goal
 
-pub loop-left-preserved : goal.loop-left-preserved
-loop-left-preserved c =
-    let parts = all_pop _ (EndsBy _) _ _ c.loop-left-test.true c.loop-left.invariant.0 in
-    rw c.node_at-node.ensures.nexted
-    (parts.1, c.loop-left.invariant.1 ∙ apart_miss _ _ _ c.loop-left-test.true (cc))
+pub returns-then-any_meets : goal.returns-then-any_meets
+returns-then-any_meets c =
+    sym (c.loop-s.invariant ∙ apart_hit _ _ c.in-Some.s c.in-Some.ensures.steps (rw c.end.ensures at (sym c.any_meets.ensures ∙ c.if-any_meets.true)))
+
+pub loop-s-preserved : goal.loop-s-preserved
+loop-s-preserved c =
+    c.loop-s.invariant ∙ apart_miss _ _ c.in-Some.s c.in-Some.ensures.steps (rw c.end.ensures at (sym c.any_meets.ensures ∙ c.if-any_meets.false))

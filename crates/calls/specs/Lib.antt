@@ -1,0 +1,2 @@
+-- What each call that may change an arena leaves.
+pub mod Calls

@@ -1,6 +1,0 @@
--- `exports::arena_alloc_aligned_bytes` meets its contract: the outcome of the arena's own call, sent, is what crosses. Assumes nothing.
-use Rattle.exports.proofs.Crosses.{crosses}
-use Rattle.exports.proofs.arena_alloc_aligned_bytes.Goals as goal
-
-pub returns : goal.returns
-returns c = crosses _ _ _ _ c.shape_in.ensures c.load.ensures c.alloc_aligned_bytes-reply.ensures c.send.ensures
