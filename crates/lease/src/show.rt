@@ -35,8 +35,11 @@ impl fmt::Display for Shown {
                 requested: first,
                 available: second,
             } => write!(f, ": {first}, {second}"),
-            // No other refusal carries anything.
-            _ => Ok(()),
+            Answer::ReadOnly
+            | Answer::Damaged
+            | Answer::BadLayout
+            | Answer::Overlap
+            | Answer::CutsFreeList => Ok(()),
         }
     }
 }

@@ -71,8 +71,11 @@ impl fmt::Display for AnswerText {
                 requested: first,
                 available: second,
             } => write!(f, " first={first} second={second}"),
-            // No other refusal carries anything.
-            _ => Ok(()),
+            Answer::ReadOnly
+            | Answer::Damaged
+            | Answer::BadLayout
+            | Answer::Overlap
+            | Answer::CutsFreeList => Ok(()),
         }
     }
 }
