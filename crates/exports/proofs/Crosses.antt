@@ -1,11 +1,15 @@
--- The laws of the boundary. A shape that names no policy, by its code or by a byte that is no truth, is damaged. Nothing is lost on the way: load then store
--- gives back the six numbers, store then load the header, a shape and a header that were sent are received as they were, and two answers with the same five
--- numbers say the same.
+-- The laws of the boundary. A header's six numbers lie in memory in their order. A shape that names no policy, by its code or by a byte that is no truth, is
+-- damaged. Nothing is lost on the way: load then store gives back the six numbers, store then load the header, a shape and a header that were sent are received
+-- as they were, and two answers with the same five numbers say the same.
 -- Assumes nothing.
 use Prim.Native.Nat.{ℕ, ◌<◌}
 use mathlib.Core.Path.{◌≡◌, refl, ap, sym, ◌∙◌}
 use mathlib.Core.Bool.{Bool, true, false, ◌||◌}
 use mathlib.Core.List.{List, [], ◌∷◌}
+use mir.Mem.{Cell}
+use mir.Val.{Val}
+use prog.Memory.{enc}
+use denote.Memory.{lone}
 use native.Mathlib.Omega.{arith}
 use Rattle.std.specs.Prelude.{Ok, Err}
 use lib.Dec.{eqb}
@@ -25,10 +29,21 @@ use Rattle.records.specs.declared.Order.TheVariants.{Optimistic, Pessimistic}
 use Rattle.records.specs.declared.UnknownFreelist.{UnknownFreelist}
 use Rattle.records.specs.declared.Shape.{Shape}
 use Rattle.records.proofs.Rules.{data_past, policy_codes}
-use Rattle.exports.specs.Crossing.{header_of, stored, truth, yes, is_truth, shape_out, named_by, shape_in, answer_of, crossed, crossing}
+use Rattle.exports.specs.Crossing.{header_of, stored, LiesInOrder, truth, yes, is_truth, shape_out, named_by, shape_in, answer_of, crossed, crossing}
 use Rattle.exports.specs.declared.CAnswer.{CAnswer}
 use Rattle.exports.specs.declared.CShape.{CShape}
 use Rattle.exports.specs.declared.CHeader.{CHeader}
+use Rattle.exports.specs.contracts.CHeader.{the_row}
+use Rattle.exports.proofs.CHeader.TheLaws.{lowers}
+
+-- the bytes of a header's one value
+abbrev lies : List Val → List Cell
+lies [] = []
+lies (v ∷ vs) = enc (lone the_row.mir) v
+
+-- C finds each of the six numbers in its place
+pub header_lies : (n : CHeader) → LiesInOrder n
+header_lies n v is = ap lies (lowers.val_is n (v ∷ []) is)
 
 -- load, then store: the six numbers are what they were, since the first is a u32
 pub stored_same : (n : CHeader) → n.sentinel_next < 4294967296 → stored n (header_of n) ≡ n

@@ -1,5 +1,10 @@
 -- What crosses the boundary to Rust and C: numbers, a header as six numbers, and bytes. The calls behind it are document 01's.
-use Rattle.std.specs.Prelude.{ℕ, ◌≡◌, Bool, true, false, ◌&&◌, List, leb, eqb, get_or, Result, Ok, Err}
+use Rattle.std.specs.Prelude.{ℕ, ◌≡◌, Bool, true, false, ◌&&◌, List, [], ◌∷◌, ◌++◌, leb, eqb, get_or, Result, Ok, Err}
+use mir.Mem.{Cell}
+use mir.Val.{Val}
+use prog.Memory.{enc, le}
+use denote.Laws.{Is}
+use denote.Memory.{lone}
 use Rattle.words.specs.Pick.{pick}
 use Rattle.words.specs.Word.{node_word, size_half, next_half}
 use Rattle.records.specs.Answer.{Outcome, Said, said, granted, nothing, given_back, sum, done, refused, Began, ready, unready}
@@ -15,6 +20,7 @@ use Rattle.exports.specs.declared.CShape.{CShape}
 use Rattle.exports.specs.declared.CHeader.{CHeader}
 use Rattle.exports.specs.declared.CAnswer.{CAnswer}
 use Rattle.exports.specs.declared.CBegun.{CBegun}
+use Rattle.exports.specs.contracts.CHeader.{the_row}
 
 -- the header's six numbers: the sentinel's next and size halves, allocated, minimum, discarded, and one that no call reads or writes
 abbrev pub header_of : CHeader → Header
@@ -37,6 +43,14 @@ stored n h =
       discarded = h.discarded;
       unused = n.unused;
     }
+
+-- the 24 bytes of the six numbers, in which C reads and writes them: in this order, each in four bytes, the lowest first
+abbrev pub header_bytes : CHeader → List Cell
+header_bytes n = le 4 n.sentinel_next ++ le 4 n.sentinel_size ++ le 4 n.allocated ++ le 4 n.minimum_segment_size ++ le 4 n.discarded ++ le 4 n.unused
+
+-- a header lies in memory as those bytes, whatever the machine's value is that stands for it
+abbrev pub LiesInOrder : CHeader → Type 0
+LiesInOrder n = (v : Val) → Is the_row n (v ∷ []) → enc (lone the_row.mir) v ≡ header_bytes n
 
 -- a truth crosses as a byte, 1 for yes and 0 for no; any other byte is none
 abbrev pub truth : Bool → ℕ
