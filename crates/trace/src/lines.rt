@@ -78,23 +78,33 @@ fn fill(fields: &mut Fields<'_>) -> Option<Line> {
     })
 }
 
-fn parse(fields: &mut Fields<'_>) -> Option<Line> {
-    let first = fields.next()?;
-    if let Some(cap) = first.strip_prefix("cap=") {
-        return Some(Line::Setup {
-            cap: number(cap)?,
-            settings: settings(fields)?,
-        });
-    }
-    match first.strip_prefix("op=")? {
+fn setup(fields: &mut Fields<'_>) -> Option<Line> {
+    Some(Line::Setup {
+        cap: number(fields.next()?)?,
+        settings: settings(fields)?,
+    })
+}
+
+fn operation(fields: &mut Fields<'_>) -> Option<Line> {
+    match fields.next()? {
         "fill" => fill(fields),
         op => Some(Line::Call(call(op, fields)?)),
     }
 }
 
-// What a line says, if it can be read.
+// The fields behind the first key, if they are text.
+fn fields_of(rest: &[u8]) -> Option<Fields<'_>> {
+    Some(str::from_utf8(rest).ok()?.split(' '))
+}
+
+// What a line says, if it can be read. A line with neither key at its start is looked at no further.
 pub fn read_line(text: &[u8]) -> Option<Line> {
-    let mut fields = str::from_utf8(text).ok()?.split(' ');
-    let said = parse(&mut fields)?;
+    let (said, mut fields) = if let Some(rest) = text.strip_prefix(b"cap=") {
+        let mut fields = fields_of(rest)?;
+        (setup(&mut fields)?, fields)
+    } else {
+        let mut fields = fields_of(text.strip_prefix(b"op=")?)?;
+        (operation(&mut fields)?, fields)
+    };
     fields.next().is_none().then_some(said)
 }
