@@ -1,7 +1,7 @@
 -- A node leaves the list and serves a request: what holds of the list then, and the two answers of `serve`, by the segment rule.
 -- Assumes nothing.
 use Prim.Native.Nat.{ℕ, ◌+◌, ◌-◌, ◌≤◌}
-use mathlib.Core.Path.{◌≡◌, refl, sym}
+use mathlib.Core.Path.{◌≡◌, refl, sym, ◌∙◌}
 use mathlib.Core.List.{List}
 use native.Mathlib.Omega.{arith}
 use lib.ListN.{length, get_or}
@@ -45,15 +45,15 @@ rest_inside h r g n m q is room inside e = omega (arith, (cut_of _ _ _ _ e).ends
 -- the two answers of `serve_from`, by the segment rule
 module _ (h : Header) (l : List ℕ) (segs : List Segment) (first n : ℕ) (o : Order) (r : Request) (g : Segment) (is : n ≡ need r) where
   -- 01: else memory is (p, s) and discarded stays
-  pub serves_whole : rest_of h g n ≡ None → (next : Header) → next ≡ with_first h first → handed_out next l g.offset g.size r ≡ serve_from h l first segs o r g (rest_of h g (need r))
+  pub serves_from_whole : rest_of h g n ≡ None → (next : Header) → next ≡ with_first h first → handed_out next l g.offset g.size r ≡ serve_from h l first segs o r g (rest_of h g (need r))
   unfolding serve_from
-  serves_whole e next a = simp (← is, e, a)
+  serves_from_whole e next a = simp (← is, e, a)
 
   -- 01: inserted, discarded grows by 8, memory is (p, need)
-  pub serves_split : (q : Segment) → rest_of h g n ≡ Some q → (l₁ : List ℕ) (head : ℕ) → Inserted l segs first o q l₁ head → (linked next : Header) → linked ≡ with_first h head → next ≡ losing linked 8
+  pub serves_from_split : (q : Segment) → rest_of h g n ≡ Some q → (l₁ : List ℕ) (head : ℕ) → Inserted l segs first o q l₁ head → (linked next : Header) → linked ≡ with_first h head → next ≡ losing linked 8
       → handed_out next l₁ g.offset n r ≡ serve_from h l first segs o r g (rest_of h g (need r))
   unfolding serve_from
-  serves_split q e l₁ head i linked next a b = simp (← is, e, ← i.bytes, ← i.starts, b, a)
+  serves_from_split q e l₁ head i linked next a b = simp (← is, e, ← i.bytes, ← i.starts, b, a)
 
 -- the k-th node, which stands at p, left the list: the bytes and the first node then, and the list that they hold
 pub record NodeOut (h : Header) (l : List ℕ) (segs : List Segment) (r : Request) (count k : ℕ) (g : Segment) (l₁ : List ℕ) (first : ℕ) : Type 0 where
@@ -97,3 +97,12 @@ pub serves_out : (h : Header) (l l₁ : List ℕ) (segs : List Segment) (o : Ord
     → serve_from h l₁ first (passed (word_at l₁) (count - 1) first) o r g (rest_of h g (need r)) ≡ serve h l segs o r k
 unfolding serve
 serves_out h l l₁ segs o r count k first g out = simp (out.node, out.held.are, ← out.bytes, ← out.starts)
+
+-- the two answers of `serve`
+module _ {h : Header} {l l₁ : List ℕ} {segs : List Segment} {r : Request} {count k first : ℕ} {g : Segment} (out : NodeOut h l segs r count k g l₁ first) (n : ℕ) (o : Order) (is : n ≡ need r) where
+  pub serves_whole : rest_of h g n ≡ None → (next : Header) → next ≡ with_first h first → handed_out next l₁ g.offset g.size r ≡ serve h l segs o r k
+  serves_whole e next a = serves_from_whole h l₁ (passed (word_at l₁) (count - 1) first) first n o r g is e next a ∙ serves_out h l l₁ segs o r count k first g out
+
+  pub serves_split : (q : Segment) → rest_of h g n ≡ Some q → (l₂ : List ℕ) (head : ℕ) → Inserted l₁ (passed (word_at l₁) (count - 1) first) first o q l₂ head
+      → (linked next : Header) → linked ≡ with_first h head → next ≡ losing linked 8 → handed_out next l₂ g.offset n r ≡ serve h l segs o r k
+  serves_split q e l₂ head i linked next a b = serves_from_split h l₁ (passed (word_at l₁) (count - 1) first) first n o r g is q e l₂ head i linked next a b ∙ serves_out h l l₁ segs o r count k first g out

@@ -3,14 +3,15 @@
 use mathlib.Core.Path.{◌≡◌, refl, sym, ap, ◌∙◌}
 use Rattle.std.specs.List.{AllByRecursion as Each}
 use mathlib.Core.List.{List, [], ◌∷◌, ◌++◌}
-use Prim.Native.Nat.{ℕ, zero, suc, ◌-◌, ◌<◌}
+use Prim.Native.Nat.{ℕ, zero, suc, ◌+◌, ◌-◌, ◌<◌}
+use native.Mathlib.Nat.{zero-add}
 use native.Mathlib.Omega.{arith}
 use lib.ListN.{length}
 use Rattle.words.specs.Word.{end_mark}
 use Rattle.records.specs.declared.Order.{Order}
 use Rattle.records.specs.declared.Segment.{Segment}
 use Rattle.freelist.specs.Segs.{Run, seg_at, next_at, leads, followed, passed}
-use Rattle.freelist.specs.Place.{start_of}
+use Rattle.freelist.specs.Place.{start_of, last_of}
 use Rattle.freelist.specs.Check.{follows}
 
 module _ (w : ℕ → ℕ) where
@@ -41,6 +42,21 @@ module _ (w : ℕ → ℕ) where
   pub followed_suc : (n p : ℕ) → followed w (suc n) p ≡ next_at w (followed w n p)
   followed_suc zero p = refl
   followed_suc (suc n) p = followed_suc n (next_at w p)
+
+  pub passed_pop : (n p : ℕ) → 0 < n → passed w n p ≡ seg_at w p ∷ passed w (n - 1) (next_at w p)
+  passed_pop n p h = let e : n ≡ suc (n - 1) = omega arith in ap (λ (k : ℕ). passed w k p) e
+
+  pub all_pop : (P : Segment → Type 0) (n p : ℕ) → 0 < n → Each P (passed w n p) → P (seg_at w p) × Each P (passed w (n - 1) (next_at w p))
+  all_pop P n p h a = rw (passed_pop n p h) at a
+
+  -- a walk in two parts, and the last of the nodes that were passed
+  pub passed_split : (m n p : ℕ) → passed w (m + n) p ≡ passed w m p ++ passed w n (followed w m p)
+  passed_split zero n p = rw zero-add refl
+  passed_split (suc m) n p = let e : suc m + n ≡ suc (m + n) = omega arith in rw e (ap (λ (l : List Segment). seg_at w p ∷ l) (passed_split m n (next_at w p)))
+
+  pub last_passed : (n p : ℕ) → last_of (passed w (suc n) p) ≡ followed w n p
+  last_passed zero p = refl
+  last_passed (suc n) p = last_passed n (next_at w p)
 
   pub length-passed : (n p : ℕ) → length (passed w n p) ≡ n
   length-passed zero p = refl

@@ -4,7 +4,7 @@ use Prim.Native.Nat.{ℕ, suc, ◌+◌, ◌-◌, ◌≤◌, ◌<◌, ◌^◌}
 use mathlib.Core.Path.{◌≡◌, refl, ap, ◌∙◌}
 use mathlib.Core.Bool.{true, false, false≢true}
 use native.Mathlib.Omega.{arith}
-use borrow.Author.Tests.{ltb-true, le-ltb}
+use borrow.Author.Tests.{ltb-true, le-ltb, lt-ltb}
 use lib.IntN.{ℤ, pos, negsuc, ◌+ℤ◌, ◌-ℤ◌}
 use lib.Signed.{lt_z}
 use mir.Syntax.{w64}
@@ -39,7 +39,7 @@ minus k =
 
 module _ (z : ℤ) (f : SFits w64 z) where
   -- the number as the machine reads it back
-  read : to_z w64 (of_z w64 z) ≡ z
+  pub read : to_z w64 (of_z w64 z) ≡ z
   read = to_z-of_z f
 
   -- a test for numbers below 0, where it holds
@@ -67,6 +67,10 @@ module _ (top : ℕ) (d : ℤ) (k : ℕ) where
   pub sum_up : d ≡ pos k → pos top +ℤ d ≡ pos (top + k)
   sum_up e = rw e
 
-  -- and after a move down by k + 1 that does not pass 0
+  -- after a move down by k + 1 past 0
+  pub sum_under : d ≡ negsuc k → top < suc k → pos top +ℤ d ≡ negsuc (suc k - suc top)
+  sum_under e h = rw e (simp (lt-ltb _ _ h))
+
+  -- and after one that does not pass 0
   pub sum_down : d ≡ negsuc k → suc k ≤ top → pos top +ℤ d ≡ pos (top - suc k)
   sum_down e h = rw e (simp (le-ltb _ _ h))

@@ -10,7 +10,7 @@ use borrow.Author.Rules.{rules}
 use lib.IntN.{pos, negsuc}
 use lib.ListN.{take, drop, replicate}
 use Rattle.records.specs.Answer.{Outcome, Said, granted, nothing, given_back, done, refused, Began, ready}
-use Rattle.records.specs.Setup.{code_of, data_offset, fresh_header, setting_up}
+use Rattle.records.specs.Setup.{data_offset, fresh_header, setting_up}
 use Rattle.records.specs.Change.{with_top}
 use Rattle.records.specs.Rule.{segment_of}
 use Rattle.records.specs.declared.Order.{Order}
@@ -50,9 +50,14 @@ take' s o r = taking s o.header o.bytes r
 abbrev pub give : Shape → Outcome → ℕ → ℕ → Outcome
 give s o p n = giving_back s o.header o.bytes p n
 
+-- the policies by their codes: optimistic 1, pessimistic 2
+abbrev pub policy : Order → ℕ
+policy Optimistic = 1
+policy Pessimistic = 2
+
 -- 01: start S: cap 200, reserved 7 (data offset 8), minimum 20: what setup is given, and the fresh arena
 abbrev pub settings : Order → Settings
-settings o = record { reserved = 7; unify = false; policy = code_of (Ordered o); minimum_segment_size = 20; read_only = false }
+settings o = record { reserved = 7; unify = false; policy = policy o; minimum_segment_size = 20; read_only = false }
 
 abbrev pub day : Order → Shape
 day o = shape 200 8 (Ordered o)

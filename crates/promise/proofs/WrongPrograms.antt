@@ -227,22 +227,30 @@ refuses_past s h l (Take r) = pick (ltb s.cap (want h.allocated (plain r))) (ref
 refuses_past s h l c = performed s h l c
 
 -- one that refuses 10 bytes past the top where some segment has room for them is out
-refusing_out : (p : Program) (n : ℕ) (carried : List ℕ) → (p small (once_by performed).header (once_by performed).bytes (Take (Bytes 10))).says ≡ refused n carried
-    → GrantsIn p small (once_by performed) → ⊥
-unfolding opened
-refusing_out p n carried answer m =
+refusing_out : (p : Program) (st : State) (n : ℕ) (carried : List ℕ) → (p small st.header st.bytes (Take (Bytes 10))).says ≡ refused n carried
+    → PastTop small st (Bytes 10) → Fits small st (Bytes 10) → GrantsIn p small st → ⊥
+refusing_out p st n carried answer past fits m =
     let ordered : ◌≡◌ {A = Policy} (Ordered Optimistic) None → ⊥ = λ e. false≢true cc in
-    let b = (m (Bytes 10) (record { formed = refl; some = refl; past = omega arith }) ordered).1 (record { offset = 8; size = 16 }, Memᴰ.head refl, omega arith) in
+    let b = (m (Bytes 10) past ordered).1 fits in
     false≢true (cc (answer, b.1))
+
+-- the state after the first give-back is one where it does: the segment at 8 has room
+once_past : PastTop small (once_by performed) (Bytes 10)
+unfolding opened
+once_past = record { formed = refl; some = refl; past = omega arith }
+
+once_fits : Fits small (once_by performed) (Bytes 10)
+unfolding opened
+once_fits = (record { offset = 8; size = 16 }, Memᴰ.head refl, omega arith)
 
 pub refuses_past_out : GrantsExactly refuses_past → ⊥
 unfolding opened
-refuses_past_out m = refusing_out refuses_past 9 [] refl (m small _ (once_brought refuses_past refl))
+refuses_past_out m = refusing_out refuses_past _ 9 [] refl once_past once_fits (m small _ (once_brought refuses_past refl))
 
 -- so is one that refuses everything, at the state that the contracts lead to by the same calls
 pub refuses_all_grants_out : GrantsWhereReached refuses_all → ⊥
 unfolding opened
-refuses_all_grants_out m = refusing_out refuses_all 1 [] refl (m small _ (brought_reached small (once_brought performed refl)))
+refuses_all_grants_out m = refusing_out refuses_all _ 1 [] refl once_past once_fits (m small _ (brought_reached small (once_brought performed refl)))
 
 -- an invented discard sum
 abbrev invented : Said → Said

@@ -6,7 +6,22 @@ use Rattle.std.specs.Str.Pattern.{FindsCharPrefix}
 use Rattle.std.specs.Result.{result_ok}
 use Rattle.std.proofs.lemmas.Str.Pattern.{strip_prefix_char}
 use Rattle.std.proofs.lemmas.Str.Parse.{IsNumeralModel, numerals_by_fold, parse_plain}
+use Prim.Native.Nat.{◌+◌, ◌-◌, ◌*◌, ◌<◌}
+use mathlib.Core.List.{◌++◌}
+use native.Mathlib.Numerals.{add-one}
+use lib.ListN.{length, take}
+use lib.Seq.{take-suc}
 use Rattle.trace.specs.Numeral.{onto, numeral, signed_numeral, Says, Counted}
+
+-- a digit at the end
+onto_end : (n d : ℕ) (ds : List ℕ) → onto n (ds ++ (d ∷ [])) ≡ onto n ds * 10 + (d - 48)
+unfolding onto
+onto_end n d [] = refl
+onto_end n d (x ∷ ds) = onto_end (n * 10 + (x - 48)) d ds
+
+-- the digits up to i and the one at i
+pub onto_more : (n : ℕ) (ds : List ℕ) (i : ℕ) → i < length ds → onto n (take i ds) * 10 + (get_or ds i 0 - 48) ≡ onto n (take (i + 1) ds)
+onto_more n ds i h = rw (add-one i, take-suc ds i 0 h, onto_end n (get_or ds i 0) (take i ds))
 
 -- what the library's fold over digits says is their numeral
 numerals : IsNumeralModel (λ ds. all_ascii_digits ds ≡ true) numeral

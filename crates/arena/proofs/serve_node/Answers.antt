@@ -3,11 +3,11 @@
 use Rattle.std.proofs.Common.{◌∙◌, arith}
 use Rattle.words.specs.Word.{end_mark}
 use Rattle.freelist.proofs.Links.{inserted_small}
-use Rattle.arena.proofs.Serves.{serves_whole, rest_inside, serves_split}
+use Rattle.arena.proofs.Serves.{serves_from_whole, rest_inside, serves_from_split}
 use Rattle.arena.proofs.serve_node.Goals as goal
 
 pub returns-in_default : goal.returns-in_default
-returns-in_default c = c.hand_out.ensures ∙ serves_whole _ _ _ _ _ _ _ _ c.need_of-need.ensures.is (cc) _ c.with_first-next.ensures
+returns-in_default c = c.hand_out.ensures ∙ serves_from_whole _ _ _ _ _ _ _ _ c.need_of-need.ensures.is (cc) _ c.with_first-next.ensures
 
 pub insert-head-requires : goal.insert-head-requires
 insert-head-requires c =
@@ -23,4 +23,4 @@ overflow_cast-head c =
 
 pub returns : goal.returns
 returns c =
-    c.hand_out-2.ensures ∙ serves_split _ _ _ _ _ _ _ _ c.need_of-need.ensures.is c.in-Some.segment (cc) _ _ c.insert-head.ensures _ _ c.with_first.ensures c.lose-next.ensures
+    c.hand_out-2.ensures ∙ serves_from_split _ _ _ _ _ _ _ _ c.need_of-need.ensures.is c.in-Some.segment (cc) _ _ c.insert-head.ensures _ _ c.with_first.ensures c.lose-next.ensures
