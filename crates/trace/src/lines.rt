@@ -2,7 +2,6 @@
 use crate::fields::{Fields, number, number_at, signed, text_at};
 use calls::Call;
 use records::{Position, Request, Settings};
-use std::str;
 
 // What a line says.
 #[derive(Clone, Copy)]
@@ -14,97 +13,90 @@ pub enum Line {
 }
 
 fn unify(fields: &mut Fields<'_>) -> Option<bool> {
-    match text_at(fields, "unify=")? {
-        "0" => Some(false),
-        "1" => Some(true),
+    match text_at(fields, b"unify=")? {
+        b"0" => Some(false),
+        b"1" => Some(true),
         _ => None,
     }
 }
 
 fn settings(fields: &mut Fields<'_>) -> Option<Settings> {
     Some(Settings {
-        reserved: number_at(fields, "reserved=")?,
+        reserved: number_at(fields, b"reserved=")?,
         unify: unify(fields)?,
-        policy: number_at(fields, "policy=")?,
-        minimum_segment_size: number_at(fields, "min=")?,
+        policy: number_at(fields, b"policy=")?,
+        minimum_segment_size: number_at(fields, b"min=")?,
         read_only: false,
     })
 }
 
-fn request(op: &str, fields: &mut Fields<'_>) -> Option<Request> {
+fn request(op: &[u8], fields: &mut Fields<'_>) -> Option<Request> {
     match op {
-        "bytes" => Some(Request::Bytes(number_at(fields, "size=")?)),
-        "typed" => Some(Request::Typed {
-            size: number_at(fields, "size=")?,
-            align: number_at(fields, "align=")?,
+        b"bytes" => Some(Request::Bytes(number_at(fields, b"size=")?)),
+        b"typed" => Some(Request::Typed {
+            size: number_at(fields, b"size=")?,
+            align: number_at(fields, b"align=")?,
         }),
-        "aligned" => Some(Request::Aligned {
-            size: number_at(fields, "size=")?,
-            align: number_at(fields, "align=")?,
-            extra: number_at(fields, "extra=")?,
+        b"aligned" => Some(Request::Aligned {
+            size: number_at(fields, b"size=")?,
+            align: number_at(fields, b"align=")?,
+            extra: number_at(fields, b"extra=")?,
         }),
         _ => None,
     }
 }
 
 fn position(fields: &mut Fields<'_>) -> Option<Position> {
-    match text_at(fields, "from=")? {
-        "start" => Some(Position::Start(number_at(fields, "by=")?)),
-        "end" => Some(Position::End(number_at(fields, "by=")?)),
-        "current" => Some(Position::Current(signed(text_at(fields, "by=")?)?)),
+    match text_at(fields, b"from=")? {
+        b"start" => Some(Position::Start(number_at(fields, b"by=")?)),
+        b"end" => Some(Position::End(number_at(fields, b"by=")?)),
+        b"current" => Some(Position::Current(signed(text_at(fields, b"by=")?)?)),
         _ => None,
     }
 }
 
-fn call(op: &str, fields: &mut Fields<'_>) -> Option<Call> {
+fn call(op: &[u8], fields: &mut Fields<'_>) -> Option<Call> {
     match op {
-        "give" => Some(Call::Give {
-            offset: number_at(fields, "offset=")?,
-            size: number_at(fields, "size=")?,
+        b"give" => Some(Call::Give {
+            offset: number_at(fields, b"offset=")?,
+            size: number_at(fields, b"size=")?,
         }),
-        "discard" => Some(Call::Discard),
-        "rewind" => Some(Call::Rewind(position(fields)?)),
-        "min" => Some(Call::SetMinimum(number_at(fields, "size=")?)),
-        "lost" => Some(Call::AddDiscarded(number_at(fields, "size=")?)),
+        b"discard" => Some(Call::Discard),
+        b"rewind" => Some(Call::Rewind(position(fields)?)),
+        b"min" => Some(Call::SetMinimum(number_at(fields, b"size=")?)),
+        b"lost" => Some(Call::AddDiscarded(number_at(fields, b"size=")?)),
         _ => Some(Call::Take(request(op, fields)?)),
     }
 }
 
 fn fill(fields: &mut Fields<'_>) -> Option<Line> {
     Some(Line::Fill {
-        offset: number_at(fields, "offset=")?,
-        size: number_at(fields, "size=")?,
-        byte: number_at(fields, "byte=")?,
+        offset: number_at(fields, b"offset=")?,
+        size: number_at(fields, b"size=")?,
+        byte: number_at(fields, b"byte=")?,
     })
 }
 
-fn setup(fields: &mut Fields<'_>) -> Option<Line> {
-    Some(Line::Setup {
+fn setup_line(mut fields: Fields<'_>) -> Option<Line> {
+    let said = Line::Setup {
         cap: number(fields.next()?)?,
-        settings: settings(fields)?,
-    })
-}
-
-fn operation(fields: &mut Fields<'_>) -> Option<Line> {
-    match fields.next()? {
-        "fill" => fill(fields),
-        op => Some(Line::Call(call(op, fields)?)),
-    }
-}
-
-// The fields behind the first key, if they are text.
-fn fields_of(rest: &[u8]) -> Option<Fields<'_>> {
-    Some(str::from_utf8(rest).ok()?.split(' '))
-}
-
-// What a line says, if it can be read. A line with neither key at its start is looked at no further.
-pub fn read_line(text: &[u8]) -> Option<Line> {
-    let (said, mut fields) = if let Some(rest) = text.strip_prefix(b"cap=") {
-        let mut fields = fields_of(rest)?;
-        (setup(&mut fields)?, fields)
-    } else {
-        let mut fields = fields_of(text.strip_prefix(b"op=")?)?;
-        (operation(&mut fields)?, fields)
+        settings: settings(&mut fields)?,
     };
     fields.next().is_none().then_some(said)
+}
+
+fn operation_line(mut fields: Fields<'_>) -> Option<Line> {
+    let said = match fields.next()? {
+        b"fill" => fill(&mut fields)?,
+        op => Line::Call(call(op, &mut fields)?),
+    };
+    fields.next().is_none().then_some(said)
+}
+
+// What a line says, if it can be read: one with neither key at its start is looked at no further.
+pub fn read_line(text: &[u8]) -> Option<Line> {
+    match text.strip_prefix(b"cap=") {
+        Some(rest) => setup_line(Fields::new(rest)),
+        None => operation_line(Fields::new(text.strip_prefix(b"op=")?)),
+    }
 }
