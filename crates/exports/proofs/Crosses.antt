@@ -2,13 +2,15 @@
 -- damaged. Nothing is lost on the way: load then store gives back the six numbers, store then load the header, a shape and a header that were sent are received
 -- as they were, and two answers with the same five numbers say the same.
 -- Assumes nothing.
-use Prim.Native.Nat.{ℕ, ◌<◌}
+use Prim.Native.Nat.{ℕ, ◌<◌, ◌^◌}
 use mathlib.Core.Path.{◌≡◌, refl, ap, sym, ◌∙◌}
 use mathlib.Core.Bool.{Bool, true, false, ◌||◌}
 use mathlib.Core.List.{List, [], ◌∷◌}
 use mir.Mem.{Cell}
-use mir.Val.{Val}
+use mir.Syntax.{w32}
+use mir.Val.{Val, vint, vstruct, vcons, vnil}
 use prog.Memory.{enc}
+use denote.Laws.{Is}
 use denote.Memory.{lone}
 use native.Mathlib.Omega.{arith}
 use Rattle.std.specs.Prelude.{Ok, Err}
@@ -44,6 +46,20 @@ lies (v ∷ vs) = enc (lone the_row.mir) v
 -- C finds each of the six numbers in its place
 pub header_lies : (n : CHeader) → LiesInOrder n
 header_lies n v is = ap lies (lowers.val_is n (v ∷ []) is)
+
+-- and some value of the machine stands for every header of six u32, so that the law is not empty
+abbrev value : CHeader → Val
+value n = vstruct (vcons (vint w32 n.sentinel_next) (vcons (vint w32 n.sentinel_size) (vcons (vint w32 n.allocated) (vcons (vint w32 n.minimum_segment_size) (vcons (vint w32 n.discarded) (vcons (vint w32 n.unused) vnil))))))
+
+abbrev Fits : ℕ → Type 0
+Fits x = x < 2 ^ 32
+
+pub header_stands :
+    (n : CHeader) → Fits n.sentinel_next → Fits n.sentinel_size → Fits n.allocated → Fits n.minimum_segment_size → Fits n.discarded → Fits n.unused → Is the_row n (value n ∷ [])
+header_stands n a b c d e f = (
+  (vint w32 n.sentinel_next ∷ [], (vint w32 n.sentinel_size ∷ [], (vint w32 n.allocated ∷ [], (vint w32 n.minimum_segment_size ∷ [], (vint w32 n.discarded ∷ [], (vint w32 n.unused ∷ [], tt)))))),
+  (refl, ((refl, a), ((refl, b), ((refl, c), ((refl, d), ((refl, e), ((refl, f), tt))))))),
+)
 
 -- load, then store: the six numbers are what they were, since the first is a u32
 pub stored_same : (n : CHeader) → n.sentinel_next < 4294967296 → stored n (header_of n) ≡ n
