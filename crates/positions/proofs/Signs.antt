@@ -1,5 +1,5 @@
--- A signed number below 0, or not, as a native number, and its exact sum with a top. docs/PORT.md names these laws; the search finds what they say, so no
--- proof cites them. Assumes nothing.
+-- A signed number below 0, or not, as a native number, and its exact sum with a top. docs/PORT.md names these laws, but for
+-- `read` and `sum_under`; the search finds what they say, so no proof cites them. Assumes nothing.
 use Prim.Native.Nat.{ℕ, suc, ◌+◌, ◌-◌, ◌≤◌, ◌<◌, ◌^◌}
 use mathlib.Core.Path.{◌≡◌, refl, ap, ◌∙◌}
 use mathlib.Core.Bool.{true, false, false≢true}

@@ -230,6 +230,7 @@ pub fn c_shape(shape: Shape) -> CShape
     CShape::from(shape)
 }
 
+#[tactic(auto, unfolding(exports::specs::Crossing::shape_in))]
 pub fn c_shape_in(shape: CShape) -> Shape
     ensures { Promised (P.c_shape_in shape) result }
 {
