@@ -43,7 +43,7 @@ abbrev lies : List Val → List Cell
 lies [] = []
 lies (v ∷ vs) = enc (lone the_row.mir) v
 
--- C finds each of the six numbers in its place
+-- each of the six numbers lies in its place
 pub header_lies : (n : CHeader) → LiesInOrder n
 header_lies n v is = ap lies (lowers.val_is n (v ∷ []) is)
 

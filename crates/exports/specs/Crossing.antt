@@ -44,11 +44,11 @@ stored n h =
       unused = n.unused;
     }
 
--- the 24 bytes of the six numbers, in which C reads and writes them: in this order, each in four bytes, the lowest first
+-- the 24 bytes of the six numbers: in this order, which is that of include/arena.h, each in four bytes, the lowest first
 abbrev pub header_bytes : CHeader → List Cell
 header_bytes n = le 4 n.sentinel_next ++ le 4 n.sentinel_size ++ le 4 n.allocated ++ le 4 n.minimum_segment_size ++ le 4 n.discarded ++ le 4 n.unused
 
--- a header lies in memory as those bytes, whatever the machine's value is that stands for it
+-- a header lies in the memory of the logic's machine as those bytes, whatever the machine's value is that stands for it
 abbrev pub LiesInOrder : CHeader → Type 0
 LiesInOrder n = (v : Val) → Is the_row n (v ∷ []) → enc (lone the_row.mir) v ≡ header_bytes n
 
