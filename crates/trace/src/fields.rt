@@ -10,12 +10,12 @@ use std::str;
 pub struct Fields<'a>(Option<&'a [u8]>);
 
 impl<'a> Fields<'a> {
-    pub fn new(line: &'a [u8]) -> Fields<'a> {
+    pub(crate) fn new(line: &'a [u8]) -> Fields<'a> {
         Fields(Some(line))
     }
 
     // The next field. No Iterator, whose laws no reader here needs.
-    pub fn next(&mut self) -> Option<&'a [u8]> {
+    pub(crate) fn next(&mut self) -> Option<&'a [u8]> {
         let rest = self.0?;
         match rest.iter().position(|b| *b == b' ') {
             Some(end) => {
