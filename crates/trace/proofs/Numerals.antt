@@ -19,7 +19,7 @@ unfolding onto
 onto_end n d [] = refl
 onto_end n d (x ∷ ds) = onto_end (n * 10 + (x - 48)) d ds
 
--- the digits up to i and the one at i
+-- the digits up to i and the one at i. No proof cites this law: it is how a reader goes on by one digit
 pub onto_more : (n : ℕ) (ds : List ℕ) (i : ℕ) → i < length ds → onto n (take i ds) * 10 + (get_or ds i 0 - 48) ≡ onto n (take (i + 1) ds)
 onto_more n ds i h = rw (add-one i, take-suc ds i 0 h, onto_end n (get_or ds i 0) (take i ds))
 

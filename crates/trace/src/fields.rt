@@ -5,7 +5,8 @@ ghost use Rattle.trace.specs.Numeral.{Says, Counted, signed_numeral};
 use std::num::TryFromIntError;
 use std::str;
 
-// What is left of a line, none after its last field. No `Split` of a text: that would test the whole line for being text, where only numbers need it.
+// What is left of a line, none after its last field. No `Split` of a text: that would test the whole line for being text, where
+// only numbers need it.
 #[derive(Clone, Copy)]
 pub struct Fields<'a>(Option<&'a [u8]>);
 
